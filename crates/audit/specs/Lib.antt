@@ -1,0 +1,4 @@
+-- In reading order: what a check answers, which tables are well-formed, and the pairs of an accepted table.
+pub mod Check
+pub mod WellFormed
+pub mod Pairs

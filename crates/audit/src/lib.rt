@@ -1,0 +1,1 @@
+// Check, and reading an accepted table back.
