@@ -1,0 +1,2 @@
+-- What a build answers, and the words that it leaves.
+pub mod Build

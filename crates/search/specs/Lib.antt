@@ -1,0 +1,2 @@
+-- The cells of one block.
+pub mod Placed

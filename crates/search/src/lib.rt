@@ -1,0 +1,1 @@
+// The least k of a list, and the least q of a block.
