@@ -5,6 +5,7 @@ pub mod Sums
 pub mod Collisions
 pub mod Counting
 pub mod Members
+pub mod Orders
 pub mod Multipliers
 pub mod LeastLaws
 pub mod Theorems
