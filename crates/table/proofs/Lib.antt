@@ -1,2 +1,4 @@
 -- What is proved of the words of a table.
 pub mod Tabulate
+pub mod Front
+pub mod Held
