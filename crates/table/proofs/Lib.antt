@@ -2,3 +2,5 @@
 pub mod Tabulate
 pub mod Front
 pub mod Held
+pub mod Chosen
+pub mod Own
