@@ -1,4 +1,5 @@
--- What is proved of the words of a table.
+-- What several proofs cite: how a definition's tests are decided, what sizes that pass them tell, and lists by their function.
+pub mod Laws
 pub mod Tabulate
 pub mod Front
 pub mod Held
