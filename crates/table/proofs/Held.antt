@@ -42,12 +42,12 @@ pub record Holder (p : ℕ) (front codes values : List ℕ) (i : ℕ) : Type 0 w
   pub holds : heldIn p front codes values i ≡ getD values index 0
 
 module _ (p : ℕ) (front : List ℕ) where
-  held-here :
+  pub held-here :
       (a v : ℕ) (codes values : List ℕ) (i : ℕ) → ownCell p front a ≡ i → heldIn p front (a ∷ codes) (v ∷ values) i ≡ v
   unfolding heldIn
   held-here a v codes values i e = rw (eq-eqb (ownCell p front a) i e)
 
-  held-later :
+  pub held-later :
       (a v : ℕ) (codes values : List ℕ) (i : ℕ) → (ownCell p front a ≡ i → ⊥)
       → heldIn p front (a ∷ codes) (v ∷ values) i ≡ heldIn p front codes values i
   unfolding heldIn
