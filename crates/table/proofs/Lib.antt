@@ -5,3 +5,4 @@ pub mod Front
 pub mod Held
 pub mod Chosen
 pub mod Own
+pub mod Contents
