@@ -1,0 +1,2 @@
+-- In reading order: the first index of which a test holds.
+pub mod First
