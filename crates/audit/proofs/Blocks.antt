@@ -16,7 +16,6 @@ use lib.ListN.{length, getD, take, drop, length-drop}
 use lib.Seq.{getD-take, getD-drop, length-take-le}
 use Rattle.hash.specs.Hash.{hashOf}
 use Rattle.table.specs.Words.{codeCount, cellCount, multiplier, blockStart, blockEnd, blockMultiplier, cellCode, blockOf, cellIn, ownCell}
-use Rattle.table.proofs.First.{true-or-false}
 use Rattle.audit.specs.Check.{misplaced, blockCodes}
 use Rattle.audit.specs.Blocks.{Starts, strange, strangeAt}
 
@@ -100,25 +99,26 @@ module _ (p : ℕ) (words : List ℕ) (s : Starts words) (j t a : ℕ) (lj : j <
   own-place b lb =
       elim (ℕ-discrete b j) [
         | yes e ↦
-          rw (e, eq-eqb j j refl, ne-eqb (blockStart words j) (blockEnd words j) (omega arith), eqb-add) refl
+            rw (e, eq-eqb j j refl, ne-eqb (blockStart words j) (blockEnd words j) (omega arith), eqb-add) refl
         | no ne ↦
-          rw (ne-eqb b j ne)
-          (elim (ℕ-discrete (blockStart words b) (blockEnd words b)) [
-            | yes e ↦ rw (eq-eqb (blockStart words b) (blockEnd words b) e) refl
-            | no has ↦
-              rw
-              (ne-eqb (blockStart words b) (blockEnd words b) has,
-              ne-eqb (cellIn p words b a) (blockStart words j + t)
-              (apart words s b j (cellIn p words b a) (blockStart words j + t) lb lj ne
-              (omega (arith, edge-start words s b lb))
-              (cell-lt words s p b a lb has)
-              (omega (arith, edge-start words s j lj))
-              (omega arith)))
-              refl
-          ])
+            rw (ne-eqb b j ne)
+            (elim (ℕ-discrete (blockStart words b) (blockEnd words b)) [
+              | yes e ↦ rw (eq-eqb (blockStart words b) (blockEnd words b) e) refl
+              | no has ↦
+                  rw (
+                    ne-eqb (blockStart words b) (blockEnd words b) has,
+                    ne-eqb (cellIn p words b a) (blockStart words j + t)
+                        (apart words s b j (cellIn p words b a) (blockStart words j + t) lb lj ne
+                        (omega (arith, edge-start words s b lb))
+                        (cell-lt words s p b a lb has)
+                        (omega (arith, edge-start words s j lj))
+                        (omega arith)),
+                  )
+                  refl
+            ])
       ]
 
-  strange-is : 
+  strange-is :
       strange p (multiplier words) (codeCount words) j (blockMultiplier words j) (blockEnd words j - blockStart words j) t a
       ≡ (not (eqb a 0) && (eqb (blockStart words (blockOf p words a)) (blockEnd words (blockOf p words a))
       || not (eqb (ownCell p words a) (blockStart words j + t))))
@@ -141,7 +141,7 @@ module _ (words : List ℕ) (s : Starts words) (whole : 3 + 2 * codeCount words 
       → strangeAt p (multiplier words) (codeCount words) j (blockMultiplier words j) (blockCodes words j) t
       ≡ misplaced p words (blockStart words j + t)
   unfolding strangeAt misplaced
-  strange-misplaced p t l = 
+  strange-misplaced p t l =
       let l : t < blockEnd words j - blockStart words j = rw part-length at l in
       rw (part-length, part-at t l)
       (strange-is p words s j t (cellCode words (blockStart words j + t)) lj l)
