@@ -6,6 +6,7 @@ use mathlib.Core.Logic.{⊎-elim}
 use mathlib.Core.Path.{_≡_, sym, _∙_}
 use native.Mathlib.Decide.{decLt}
 use native.Mathlib.Nat.{le-antisymm}
+use native.Mathlib.Numerals.{add-one}
 use native.Mathlib.Omega.{arith}
 use borrow.Author.Count.{below-more}
 use borrow.Author.Tests.{lt-ltb, le-ltb}
@@ -53,6 +54,12 @@ pub first-is : (n : ℕ) (test : ℕ → Bool) → First n test (firstOf n test)
 unfolding firstOf
 first-is zero test = record { within = omega arith; below = below-none test; holds = λ l. absurd (omega arith) }
 first-is (suc n) test = first-more n test (firstOf n test) (first-is n test)
+
+-- how a loop that does not stop at the first goes on
+pub first-next :
+    (n : ℕ) (test : ℕ → Bool) → firstOf (n + 1) test ≡ cond (ltb (firstOf n test) n) (firstOf n test) (cond (test n) n (suc n))
+unfolding firstOf
+first-next n test = rw (add-one n)
 
 -- of two, neither is below the other
 not-below : {n : ℕ} {test : ℕ → Bool} {i j : ℕ} → First n test i → First n test j → i ≤ j
