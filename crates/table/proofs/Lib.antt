@@ -3,3 +3,7 @@
 pub mod Laws
 pub mod First
 pub mod Tabulate
+pub mod Front
+pub mod Held
+pub mod Chosen
+pub mod Own
