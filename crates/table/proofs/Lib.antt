@@ -1,3 +1,5 @@
--- What several proofs cite: how a definition's tests are decided, what sizes that pass them tell, and the first index of which a test holds.
+-- What several proofs cite: how a definition's tests are decided, what sizes that pass them tell, the first index of which a test holds,
+-- and refusals one below the other.
 pub mod Laws
 pub mod First
+pub mod Refusals
