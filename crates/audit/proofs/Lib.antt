@@ -5,3 +5,4 @@ pub mod Partition
 pub mod Survey
 pub mod Passing
 pub mod WellFormed
+pub mod Lookups

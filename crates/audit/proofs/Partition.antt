@@ -80,7 +80,7 @@ module _ (words : List ℕ) (s : Starts words) where
   end-within j l = edge-within (j + 1) (omega arith)
 
   -- a place in a block that has cells is one of them
-  cell-lt : (p b a : ℕ) → b < codeCount words → (blockStart words b ≡ blockEnd words b → ⊥) → cellIn p words b a < blockEnd words b
+  pub cell-lt : (p b a : ℕ) → b < codeCount words → (blockStart words b ≡ blockEnd words b → ⊥) → cellIn p words b a < blockEnd words b
   unfolding cellIn
   cell-lt p b a l has =
       omega

@@ -47,14 +47,14 @@ unfolding checkOf tests
 accepted-or-refused p limit words = refusals-settled (tests p limit words) (codeCount words ∷ total words ∷ [])
 
 -- a table with a cell has a block
-some-codes : (words : List ℕ) → (codeCount words ≡ 0 → cellCount words ≡ 0) → (i : ℕ) → i < cellCount words → 0 < codeCount words
+pub some-codes : (words : List ℕ) → (codeCount words ≡ 0 → cellCount words ≡ 0) → (i : ℕ) → i < cellCount words → 0 < codeCount words
 some-codes words none i l =
     elim (ℕ-discrete (codeCount words) 0) [
       | yes e ↦ absurd (omega (arith, none e))
       | no ne ↦ omega arith
     ]
 
-cells-hold : (p limit : ℕ) (words : List ℕ) → WellFormed p limit words → tooManyCells words ≡ false
+pub cells-hold : (p limit : ℕ) (words : List ℕ) → WellFormed p limit words → tooManyCells words ≡ false
 cells-hold p limit words f =
     elim (ℕ-discrete (codeCount words) 0) [
       | yes e ↦ rw (eq-eqb (codeCount words) 0 e) (le-ltb 0 (cellCount words) (omega (arith, f .no-cells e)))
