@@ -1,2 +1,3 @@
--- In reading order: the words that settle a lookup.
+-- In reading order: the words that settle a lookup; then the table of a list.
 pub mod Settle
+pub mod BuildingCells
