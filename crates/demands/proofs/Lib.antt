@@ -1,3 +1,4 @@
 -- In reading order: the words that settle a lookup; then the table of a list.
 pub mod Settle
 pub mod BuildingCells
+pub mod BuildingWellFormed
