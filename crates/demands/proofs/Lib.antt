@@ -1,4 +1,6 @@
 -- In reading order: the words that settle a lookup; then the table of a list.
 pub mod Settle
+pub mod RightAnswer
 pub mod BuildingCells
 pub mod BuildingWellFormed
+pub mod BuildingLookup

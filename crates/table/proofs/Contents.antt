@@ -137,12 +137,11 @@ module _ (p : ℕ) (codes schedules : List ℕ) where
 -- ---- one cell
 
 -- cell i is that of the code with index x, and holds it with its schedule
-pub record Filled (p : ℕ) (codes schedules words : List ℕ) (i : ℕ) : Type 0 where
-  pub index : ℕ
-  pub in-list : index < length codes
-  pub its-own : ownCell p words (getD codes index 0) ≡ i
-  pub code : cellCode words i ≡ getD codes index 0
-  pub schedule : cellSchedule words i ≡ getD schedules index 0
+pub record Filled (p : ℕ) (codes schedules words : List ℕ) (i x : ℕ) : Type 0 where
+  pub in-list : x < length codes
+  pub its-own : ownCell p words (getD codes x 0) ≡ i
+  pub code : cellCode words i ≡ getD codes x 0
+  pub schedule : cellSchedule words i ≡ getD schedules x 0
 
 -- cell i is nobody's, and empty
 pub record Empty (words : List ℕ) (i : ℕ) : Type 0 where
@@ -154,23 +153,22 @@ module _
     (words : List ℕ) (t : Tabled p codes schedules words)
   where
     -- the cell of a listed code
-    pub filled-own : (x : ℕ) → x < length codes → Filled p codes schedules words (ownCell p words (getD codes x 0))
+    pub filled-own : (x : ℕ) → x < length codes → Filled p codes schedules words (ownCell p words (getD codes x 0)) x
     filled-own x h =
         let apart : Apart p words codes = listed-apart prime (blocksMultiplier p codes) codes valid words (t .front) in
         let l : ownCell p words (getD codes x 0) < cellsOf p codes =
         rw (cellsOf-is p codes) (listed-own-lt prime (blocksMultiplier p codes) codes valid words (t .front) x h) in
         record {
-          index = x;
           in-list = h;
           its-own = refl;
           code = t .code-held _ l ∙ held-own p words codes codes refl apart x h;
           schedule = t .schedule-held _ l ∙ held-own p words codes schedules same apart x h;
         }
 
-    pub filled-or-empty : (i : ℕ) → i < cellsOf p codes → Filled p codes schedules words i ⊎ Empty words i
+    pub filled-or-empty : (i : ℕ) → i < cellsOf p codes → ((x : ℕ) × Filled p codes schedules words i x) ⊎ Empty words i
     filled-or-empty i h =
         elim (holder p words codes codes i refl) [
-          | inl r ↦ inl (rw (r .its-own) at (filled-own (r .index) (r .in-list)))
+          | inl r ↦ inl (r .index, rw (r .its-own) at (filled-own (r .index) (r .in-list)))
           | inr none ↦
               inr
               (record {
