@@ -4,3 +4,4 @@ pub mod RightAnswer
 pub mod BuildingCells
 pub mod BuildingWellFormed
 pub mod BuildingLookup
+pub mod BuildingBuild
