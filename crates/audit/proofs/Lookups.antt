@@ -36,7 +36,7 @@ lookup-range p limit words a values pos e = go (true-or-false (outside 1 (p - 1)
     go (inr inside) = let r = within 1 (p - 1) a inside in (r .0, omega arith)
 
 module _ {p limit : ℕ} {words : List ℕ} (f : WellFormed p limit words) where
-  starts : Starts words
+  pub starts : Starts words
   starts = record { none = f .no-cells; first = f .first-start; rising = f .rising; within = f .within }
 
   sizes-hold : badSizes p limit words ≡ false
