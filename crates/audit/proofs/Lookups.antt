@@ -1,19 +1,19 @@
 -- What is looked up in a well-formed table: a code that stands in a cell is found with that cell's schedule, and any other is absent.
 -- A code in a cell is in its own, which is the one cell that a lookup reads.
 -- Assumes nothing.
-use Prim.Native.Nat.{ℕ, suc, _+_, _*_, _-_, _<_, _≤_}
+use Prim.Native.Nat.{ℕ, _-_, _<_, _≤_}
 use mathlib.Core.Bool.{true, false, cond}
 use mathlib.Core.List.{List, [], _∷_}
 use mathlib.Core.Logic.{_⊎_, inl, inr}
-use mathlib.Core.Path.{_≡_, refl, sym, ap, _∙_}
-use native.Mathlib.Decide.{ℕ-discrete, decLt}
+use mathlib.Core.Path.{_≡_, ap, _∙_}
+use native.Mathlib.Decide.{ℕ-discrete}
 use native.Mathlib.Nat.{pos-of-ne-zero}
 use native.Mathlib.Omega.{arith}
 use borrow.Author.Tests.{eq-eqb, ne-eqb, le-ltb}
 use lib.Dec.{eqb}
 use lib.ListN.{length}
-use Rattle.table.specs.Answers.{Answer, given, absent, refused, outside}
-use Rattle.table.specs.Words.{codeCount, cellCount, multiplier, total, blockStart, blockEnd, blockMultiplier, cellCode, cellSchedule, blockOf, cellIn, ownCell}
+use Rattle.table.specs.Answers.{given, absent, refused, outside}
+use Rattle.table.specs.Words.{codeCount, cellCount, multiplier, total, blockStart, blockEnd, blockMultiplier, cellCode, cellSchedule, blockOf, ownCell}
 use Rattle.table.specs.Lookup.{badSizes, inCell, inBlock, lookupOf}
 use Rattle.table.proofs.Laws.{true-or-false, within}
 use Rattle.table.proofs.Refusals.{never-both}

@@ -1,13 +1,11 @@
 -- Demands 2 and 3, for every valid list, from the demands on tables from anywhere: a built table is well-formed, so what is proved of
 -- those holds of it.
 -- Assumes nothing.
-use Prim.Native.Nat.{ℕ, suc, _+_, _<_, _≤_}
+use Prim.Native.Nat.{ℕ, _≤_}
 use native.Mathlib.Omega.{arith}
 use mathlib.Core.List.{List, [], _∷_}
-use mathlib.Core.Logic.{_↔_}
-use mathlib.Core.Path.{_≡_, refl, sym, ap, _∙_}
-use lib.ListN.{length, getD, take, drop}
-use Rattle.hash.specs.Theorems.{Prime}
+use mathlib.Core.Path.{_≡_, sym, _∙_}
+use lib.ListN.{length, take}
 use Rattle.hash.proofs.Primes.{prime-65537}
 use Rattle.table.specs.Answers.{given}
 use Rattle.table.specs.TwoLevel.{wordsNeeded, tableOf}
@@ -16,7 +14,7 @@ use Rattle.table.proofs.Contents.{Tabled, tabled}
 use Rattle.audit.specs.WellFormed.{WellFormed}
 use Rattle.audit.specs.Pairs.{codesOf, schedulesOf, pairsIn}
 use Rattle.audit.proofs.Lookups.{lookup-range}
-use Rattle.builder.specs.Build.{buildOf, builtWords}
+use Rattle.builder.specs.Build.{builtWords}
 use Rattle.demands.specs.Lists.{Valid, Listed, rightAnswer, enough, lookedAt}
 use Rattle.demands.specs.Theorems.{Accepted, Reading, TableOfList, Settled, BuiltFrom, Building}
 use Rattle.demands.proofs.Within.{looked-within}
@@ -100,8 +98,7 @@ module _ (reading : Reading) where
             kept = built-kept codes schedules valid words room;
             any-order = λ codes′ schedules′ words′ valid′ same lent′.
                 let room′ : wordsNeeded 65537 codes′ ≤ length words′
-                = omega (arith, needed-enough prime-65537 codes′ (valid′ .codes-valid)) in
-                (
+                = omega (arith, needed-enough prime-65537 codes′ (valid′ .codes-valid)) in (
                   order-succeeds prime-65537 codes schedules codes′ schedules′ valid valid′ same (length words′) room′,
                   order-table prime-65537 codes schedules codes′ schedules′ valid valid′ same words′ room′ ∙ sym table,
                 );

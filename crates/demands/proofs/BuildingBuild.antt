@@ -1,11 +1,11 @@
 -- A build of a valid list succeeds in enough words: none of 1 to 5 holds, and the total is at most 8n - 1 (3), so neither does 6. It
 -- leaves the table, and after it the words as they were.
 -- Assumes nothing.
-use Prim.Native.Nat.{ℕ, zero, suc, _+_, _*_, _-_, _<_, _≤_}
+use Prim.Native.Nat.{ℕ, suc, _-_, _<_, _≤_}
 use native.Mathlib.Decide.{ℕ-discrete}
 use native.Mathlib.Omega.{arith}
 use mathlib.Core.Bool.{false}
-use mathlib.Core.List.{List, [], _∷_, _++_}
+use mathlib.Core.List.{List, [], _∷_}
 use mathlib.Core.Path.{_≡_, refl, sym, ap, _∙_}
 use lib.ListN.{length, getD, take, drop}
 use lib.Seq.{take-at, drop-at, getD-take, length-take-le}
@@ -13,7 +13,7 @@ use borrow.Author.Tests.{eq-eqb, ne-eqb, le-ltb}
 use Rattle.hash.specs.Hash.{Codes}
 use Rattle.hash.specs.Theorems.{Prime}
 use Rattle.table.specs.Answers.{Answer, given, filled, over}
-use Rattle.table.specs.TwoLevel.{cellsOf, wordsNeeded, tableOf}
+use Rattle.table.specs.TwoLevel.{wordsNeeded, tableOf}
 use Rattle.table.proofs.First.{none-refused}
 use Rattle.table.proofs.Chosen.{few-cells, no-cells}
 use Rattle.table.proofs.Contents.{needed-is, table-length}

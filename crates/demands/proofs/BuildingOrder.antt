@@ -1,6 +1,6 @@
 -- Every order of the same pairs has the same total and the same table.
 -- Assumes nothing.
-use Prim.Native.Nat.{ℕ, _<_, _≤_}
+use Prim.Native.Nat.{ℕ, _≤_}
 use mathlib.Core.List.{List, [], _∷_}
 use mathlib.Core.Path.{_≡_, refl, sym, ap, _∙_}
 use lib.ListN.{length, getD, take}
@@ -28,8 +28,7 @@ module _
     order-needed : wordsNeeded p codes ≡ wordsNeeded p codes′
     order-needed =
         needed-order p
-        (codes-order prime codes schedules codes′ schedules′ (valid .codes-valid) (valid′ .codes-valid) (valid .parallel)
-        (valid′ .parallel)
+        (codes-order codes schedules codes′ schedules′ (valid .codes-valid) (valid′ .codes-valid)
         (listed-in codes schedules codes′ schedules′ (same .there))
         (listed-in codes′ schedules′ codes schedules (same .back)))
 

@@ -1,19 +1,18 @@
 -- Words that begin with the table of a valid list are well-formed: its sizes keep the bounds, its blocks follow one another, and each
 -- cell is empty or holds a listed code that is its own.
 -- Assumes nothing.
-use Prim.Native.Nat.{ℕ, zero, suc, _+_, _*_, _-_, _<_, _≤_}
+use Prim.Native.Nat.{ℕ, suc, _+_, _*_, _-_, _<_, _≤_}
 use native.Mathlib.Nat.{add-assoc, mul-pos}
-use native.Mathlib.Numerals.{add-one}
 use native.Mathlib.Omega.{arith}
 use mathlib.Core.List.{List}
 use mathlib.Core.Logic.{_↔_, _⊎_, inl, inr}
-use mathlib.Core.Path.{_≡_, refl, sym, ap, ap₂, _∙_}
-use lib.ListN.{length, getD, take, drop}
-use Rattle.hash.specs.Hash.{hashOf, load, members, cells, Codes}
+use mathlib.Core.Path.{_≡_, sym, ap, _∙_}
+use lib.ListN.{length, getD}
+use Rattle.hash.specs.Hash.{hashOf, load, members}
 use Rattle.hash.specs.Theorems.{Prime}
 use Rattle.hash.proofs.Counting.{hash-lt}
 use Rattle.hash.proofs.Members.{members-codes}
-use Rattle.table.specs.Words.{codeCount, cellCount, multiplier, total, blockStart, blockEnd, blockMultiplier, cellCode, cellSchedule, blockOf, ownCell}
+use Rattle.table.specs.Words.{codeCount, cellCount, blockStart, blockEnd, blockMultiplier, cellCode, cellSchedule, blockOf, ownCell}
 use Rattle.table.specs.TwoLevel.{tabulate, blocksMultiplier, cellsMultiplier, startOf, heldIn, cellsOf}
 use Rattle.table.proofs.Tabulate.{tabulate-ext, part-tabulate}
 use Rattle.table.proofs.Front.{sizeOf, blockQ, start-first, start-next, start-rises, start-last, Fronted, block-is, size-is}

@@ -1,6 +1,6 @@
 -- The right answer to a code is a schedule exactly where the code is listed with it.
 -- Assumes nothing.
-use Prim.Native.Nat.{ℕ, zero, suc, _<_, _≤_}
+use Prim.Native.Nat.{ℕ, zero, suc, _<_}
 use native.Mathlib.Decide.{ℕ-discrete}
 use native.Mathlib.Omega.{arith}
 use mathlib.Core.List.{List, [], _∷_}
@@ -9,7 +9,7 @@ use mathlib.Core.Path.{_≡_, refl, sym, ap, _∙_}
 use lib.ListN.{length, getD}
 use borrow.Author.Tests.{eq-eqb, ne-eqb}
 use Rattle.hash.proofs.Orders.{Distinct}
-use Rattle.table.specs.Answers.{Answer, given, absent}
+use Rattle.table.specs.Answers.{given, absent}
 use Rattle.table.proofs.Held.{same-index}
 use Rattle.demands.specs.Lists.{Listed, rightAnswer}
 

@@ -1,9 +1,8 @@
 -- The table of a list does not depend on the order of its pairs: loads and pairs put together are sums over the codes, so k, c, the
 -- starts and the q's stay, and a cell holds the code whose own it is.
 -- Assumes nothing.
-use Prim.Native.Nat.{ℕ, suc, _+_, _*_, _<_, _≤_}
+use Prim.Native.Nat.{ℕ, _+_, _*_, _<_}
 use native.Mathlib.Omega.{arith}
-use mathlib.Core.Bool.{Bool}
 use mathlib.Core.List.{List, [], _∷_, _++_, List·Memᴰ, List·Permᴰ, Memᴰ·cast}
 use mathlib.Core.Logic.{inl, inr}
 use mathlib.Core.Path.{_≡_, refl, sym, ap, ap₂, _∙_}
@@ -121,17 +120,19 @@ codes-in codes values codes′ values′ there x h = let (y, l, code, value) = t
 
 -- ---- two lists that have each other's pairs
 
+pub codes-order :
+    {p : ℕ} (codes values codes′ values′ : List ℕ) → Codes p codes → Codes p codes′ → PairsIn codes values codes′ values′
+    → PairsIn codes′ values′ codes values → List·Permᴰ codes codes′
+codes-order codes values codes′ values′ valid valid′ there back =
+    same-perm codes codes′ (valid .different) (valid′ .different)
+    (λ a. mem-in codes values codes′ values′ there)
+    (λ a. mem-in codes′ values′ codes values back)
+
 module _
     {p : ℕ} (prime : Prime p) (codes schedules codes′ schedules′ : List ℕ) (valid : Codes p codes) (valid′ : Codes p codes′)
     (same : length schedules ≡ length codes) (same′ : length schedules′ ≡ length codes′)
     (there : PairsIn codes schedules codes′ schedules′) (back : PairsIn codes′ schedules′ codes schedules)
   where
-    pub codes-order : List·Permᴰ codes codes′
-    codes-order =
-        same-perm codes codes′ (valid .different) (valid′ .different)
-        (λ a. mem-in codes schedules codes′ schedules′ there)
-        (λ a. mem-in codes′ schedules′ codes schedules back)
-
     with-order :
         (front : List ℕ) (c : ℕ) → Apart p front codes′ → tableWith p front c codes schedules ≡ tableWith p front c codes′ schedules′
     unfolding tableWith
@@ -146,7 +147,8 @@ module _
 
     pub table-order : tableOf p codes schedules ≡ tableOf p codes′ schedules′
     table-order =
+        let o : List·Permᴰ codes codes′ = codes-order codes schedules codes′ schedules′ valid valid′ there back in
         table-is p codes schedules
-        ∙ ap₂ (λ (front : List ℕ) (c : ℕ). tableWith p front c codes schedules) (frontOf-order p codes-order) (cellsOf-order p codes-order)
+        ∙ ap₂ (λ (front : List ℕ) (c : ℕ). tableWith p front c codes schedules) (frontOf-order p o) (cellsOf-order p o)
         ∙ with-order (frontOf p codes′) (cellsOf p codes′) (front-apart prime codes′ valid′)
         ∙ sym (table-is p codes′ schedules′)
