@@ -1,5 +1,11 @@
--- In reading order: the codes of a run of cells, the blocks that follow one another; the pairs of a table by rising code, and lists of them merged.
+-- In reading order: the codes of a run of cells, the blocks that follow one another, and one pass over them;
+-- then what the tests of a check tell, the tables that it accepts, and what is looked up in them;
+-- then the pairs of a table by rising code, and lists of them merged.
 pub mod Counting
 pub mod Partition
+pub mod Survey
+pub mod Passing
+pub mod WellFormed
+pub mod Lookups
 pub mod Rising
 pub mod Merging
