@@ -1,6 +1,6 @@
 -- In reading order: the codes of a run of cells, the blocks that follow one another, and one pass over them;
 -- then what the tests of a check tell, the tables that it accepts, and what is looked up in them;
--- then the pairs of a table by rising code, and lists of them merged.
+-- then pairs by rising code, lists of them merged, and the pairs of a table.
 pub mod Counting
 pub mod Partition
 pub mod Survey
@@ -9,3 +9,4 @@ pub mod WellFormed
 pub mod Lookups
 pub mod Rising
 pub mod Merging
+pub mod Pairs
