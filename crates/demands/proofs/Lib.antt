@@ -1,2 +1,3 @@
--- In reading order: the words that settle a lookup.
+-- In reading order: the words that settle a lookup, and tables from anywhere.
 pub mod Settle
+pub mod Reading
