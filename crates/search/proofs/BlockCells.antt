@@ -39,7 +39,7 @@ module _ {p k : ℕ} {codes words : List ℕ} (f : Fronted p k codes words) (j :
       ]
 
   -- of any codes whose blocks have cells
-  held-placed :
+  pub held-placed :
       (s : List ℕ) (t : ℕ) → t < sizeOf p k codes j
       → ((x : ℕ) → x < length s → 0 < load p k (length codes) (hashOf p k (length codes) (getD s x 0)) codes)
       → heldIn p words s s (startOf p k codes j + t)

@@ -4,14 +4,17 @@ use Prim.Native.Nat.{ℕ, _+_, _*_, _-_, _<_, _≤_}
 use native.Mathlib.Nat.{add-assoc}
 use native.Mathlib.Omega.{arith}
 use mathlib.Core.List.{List, _++_, append-assoc}
+use mathlib.Core.Logic.{_⊎_, inl, inr}
 use mathlib.Core.Path.{_≡_, refl, sym, ap, _∙_}
 use lib.ListN.{length, getD, take, drop, length-append, length-take, take-append-drop}
 use Rattle.hash.specs.Hash.{cells, Codes}
+use Rattle.hash.specs.Theorems.{Prime}
 use Rattle.table.specs.Words.{codeCount, cellCount, totalOf, total, cellCode, cellSchedule, ownCell}
 use Rattle.table.specs.TwoLevel.{tabulate, blocksMultiplier, frontOf, frontWith, heldIn, tableWith, cellsOf, wordsNeeded, tableOf}
 use Rattle.table.proofs.Tabulate.{tabulate-length, tabulate-head, tabulate-past}
 use Rattle.table.proofs.Front.{Fronted, fronted, front-length, front-past, frontOf-fronted, own-is}
-use Rattle.table.proofs.Held.{held-same}
+use Rattle.table.proofs.Held.{Apart, held-same, held-own, held-none, holder}
+use Rattle.table.proofs.Own.{listed-own-lt, listed-apart}
 
 -- words that begin with the table of a list
 pub record Tabled (p : ℕ) (codes schedules words : List ℕ) : Type 0 where
@@ -130,3 +133,48 @@ module _ (p : ℕ) (codes schedules : List ℕ) where
   tabled words e =
       rw (sym (take-append-drop (wordsNeeded p codes) words) ∙ ap (λ (s : List ℕ). s ++ drop (wordsNeeded p codes) words) e ∙ table-runs (drop (wordsNeeded p codes) words))
       (runs-tabled (drop (wordsNeeded p codes) words))
+
+-- ---- one cell
+
+-- cell i is that of the code with index x, and holds it with its schedule
+pub record Filled (p : ℕ) (codes schedules words : List ℕ) (i : ℕ) : Type 0 where
+  pub index : ℕ
+  pub in-list : index < length codes
+  pub its-own : ownCell p words (getD codes index 0) ≡ i
+  pub code : cellCode words i ≡ getD codes index 0
+  pub schedule : cellSchedule words i ≡ getD schedules index 0
+
+-- cell i is nobody's, and empty
+pub record Empty (words : List ℕ) (i : ℕ) : Type 0 where
+  pub no-code : cellCode words i ≡ 0
+  pub no-schedule : cellSchedule words i ≡ 0
+
+module _
+    {p : ℕ} (prime : Prime p) (codes schedules : List ℕ) (valid : Codes p codes) (same : length schedules ≡ length codes)
+    (words : List ℕ) (t : Tabled p codes schedules words)
+  where
+    -- the cell of a listed code
+    pub filled-own : (x : ℕ) → x < length codes → Filled p codes schedules words (ownCell p words (getD codes x 0))
+    filled-own x h =
+        let apart : Apart p words codes = listed-apart prime (blocksMultiplier p codes) codes valid words (t .front) in
+        let l : ownCell p words (getD codes x 0) < cellsOf p codes =
+        rw (cellsOf-is p codes) (listed-own-lt prime (blocksMultiplier p codes) codes valid words (t .front) x h) in
+        record {
+          index = x;
+          in-list = h;
+          its-own = refl;
+          code = t .code-held _ l ∙ held-own p words codes codes refl apart x h;
+          schedule = t .schedule-held _ l ∙ held-own p words codes schedules same apart x h;
+        }
+
+    pub filled-or-empty : (i : ℕ) → i < cellsOf p codes → Filled p codes schedules words i ⊎ Empty words i
+    filled-or-empty i h =
+        elim (holder p words codes codes i refl) [
+          | inl r ↦ inl (rw (r .its-own) at (filled-own (r .index) (r .in-list)))
+          | inr none ↦
+              inr
+              (record {
+                no-code = t .code-held i h ∙ held-none p words codes codes i none;
+                no-schedule = t .schedule-held i h ∙ held-none p words codes schedules i none;
+              })
+        ]

@@ -35,6 +35,10 @@ ownOf p k codes a =
     startOf p k codes j + hashOf p (blockQ p k codes j) (sizeOf p k codes j) a
 
 module _ (p k : ℕ) (codes : List ℕ) where
+  pub start-first : startOf p k codes 0 ≡ 0
+  unfolding startOf sum
+  start-first = refl
+
   pub start-next : (j : ℕ) → startOf p k codes (suc j) ≡ startOf p k codes j + sizeOf p k codes j
   unfolding startOf sum
   start-next j = refl
