@@ -1,0 +1,7 @@
+-- In reading order: trying one multiplier after another; lists from the last element on, and the counting and placing that go so.
+pub mod Tries
+pub mod Ends
+pub mod Counts
+pub mod LeastBlocks
+pub mod Places
+pub mod LeastCells
