@@ -1,15 +1,13 @@
 -- A block's codes, placed in w cells from the last to the first. When i codes are left, a cell holds the code from i on that belongs there,
 -- and 0 where there is none: so a cell that is not 0 tells that the next code shares it. Taken out from i on, the codes leave the cells
 -- as they were.
-use Prim.Native.Nat.{ℕ, zero, suc, _+_, _*_, _-_, _<_, _≤_}
+use Prim.Native.Nat.{ℕ, zero, suc, _+_, _-_, _<_, _≤_}
 use native.Mathlib.Decide.{ℕ-discrete}
 use native.Mathlib.Numerals.{add-one}
 use native.Mathlib.Omega.{arith}
-use mathlib.Core.Bool.{Bool, true, false, cond}
 use mathlib.Core.List.{List, [], _∷_}
 use mathlib.Core.Path.{_≡_, refl, sym, ap, _∙_}
 use borrow.Author.Tests.{eq-eqb, ne-eqb}
-use lib.Dec.{eqb}
 use lib.ListN.{length, getD, drop, set, replicate, length-set, length-replicate, drop-of-length-le}
 use lib.Seq.{drop-length, drop-cons}
 use Rattle.hash.specs.Hash.{hashOf, load, together, Codes}
@@ -115,11 +113,7 @@ module _ {p q w : ℕ} {block cells : List ℕ} {i : ℕ} (h : Placing p q w blo
     placing-stop taken none =
         taken
         (at-cell ∙ load-placed p q w (drop i block) t
-        (omega (
-          arith,
-          together-drop p q w block (i - 1),
-          rw (drop-before block i pos (h .left), ← own) at (together-drop p q w block (i - 1)),
-        )))
+        (omega (arith, rw (drop-before block i pos (h .left), ← own) at (together-drop p q w block (i - 1)))))
 
   pub placing-all : i ≤ 0 → (together p q w block ≡ 0) × (cells ≡ tabulate (placed p q w block) w)
   placing-all end =
