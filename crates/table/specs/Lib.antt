@@ -4,3 +4,5 @@ pub mod Words
 pub mod TwoLevel
 pub mod Lookup
 pub mod Panel
+pub mod Sized
+pub mod Found
