@@ -1,5 +1,5 @@
 -- In reading order: numbers, sums, and what they give of the hash.
-pub mod Product
+pub mod Words
 pub mod Primes
 pub mod Indicators
 pub mod Sums
@@ -7,6 +7,7 @@ pub mod Collisions
 pub mod Counting
 pub mod Members
 pub mod Orders
+pub mod Permuted
 pub mod Multipliers
 pub mod LeastLaws
 pub mod Theorems
