@@ -1,3 +1,5 @@
--- What several proofs cite: how a definition's tests are decided, what sizes that pass them tell, and the steps of a panel's walk.
+-- What several proofs cite: how a definition's tests are decided and what sizes that pass them tell, the steps of a lookup, and those of a
+-- panel's walk.
 pub mod Laws
+pub mod Steps
 pub mod Walk
