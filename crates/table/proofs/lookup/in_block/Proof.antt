@@ -29,11 +29,13 @@ returns-4 c =
 
 returns-5 : tie.Need-returns-5
 returns-5 c =
-    let s = c .before .before in
     c .in-cell .ensures ∙
     rw (c .before .cell-in .ensures .value)
     (sym (block-cell _ _ _ _ (omega arith) (omega arith) (λ none. omega arith) ∙
-    rw (← s .before .before .block-multiplier .ensures, sym (s .before .outside .ensures) ∙ s .if4 .left)))
+    rw (
+      ← c .before .before .before .before .block-multiplier .ensures,
+      sym (c .before .before .before .outside .ensures) ∙ c .before .before .if4 .left,
+    )))
 
 pub in-block-spec : {M : Type 1} → statement M
 in-block-spec =
