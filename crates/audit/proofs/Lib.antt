@@ -1,0 +1,2 @@
+-- In reading order: the blocks follow one another.
+pub mod Blocks
