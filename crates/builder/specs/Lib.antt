@@ -1,2 +1,3 @@
--- What a build answers, and the words that it leaves.
+-- What a build answers, and the words that it leaves; then what its parts promise.
 pub mod Build
+pub mod Chains

@@ -1,1 +1,2 @@
 // Build.
+pub mod lists;
