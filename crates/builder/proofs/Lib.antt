@@ -1,3 +1,4 @@
 -- What the proofs of the functions cite, by topic.
 pub mod Among
 mod Chains
+mod Groups

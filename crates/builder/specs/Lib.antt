@@ -1,3 +1,4 @@
 -- What a build answers, and the words that it leaves; then what its parts promise.
 pub mod Build
 pub mod Chains
+pub mod Grouping

@@ -1,2 +1,3 @@
 // Build.
+pub mod grouping;
 pub mod lists;

@@ -1,6 +1,5 @@
 -- `builder::lists::in_chain` meets its contract. Invariant: `at` is a place of a's chain, and as good as `from`. The measure is `at`.
 -- Assumes nothing.
-use Prim.Native.Nat.{ℕ}
 use mathlib.Core.Path.{_≡_, refl, sym, _∙_}
 use native.Mathlib.Omega.{arith}
 use borrow.Author.Needs.{needs}
