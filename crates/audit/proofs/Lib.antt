@@ -1,2 +1,8 @@
--- In reading order: the blocks follow one another.
-pub mod Blocks
+-- In reading order: the codes of a run of cells, the blocks that follow one another, and one pass over them;
+-- then what the tests of a check tell, and the tables that it accepts.
+pub mod Counting
+pub mod Partition
+pub mod Survey
+pub mod Passing
+pub mod WellFormed
+pub mod Lookups

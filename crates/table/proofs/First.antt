@@ -2,13 +2,14 @@
 -- Assumes nothing.
 use Prim.Native.Nat.{ℕ, zero, suc, _+_, _<_, _≤_}
 use mathlib.Core.Bool.{Bool, true, false, cond, true≢false}
-use mathlib.Core.Logic.{⊎-elim}
+use mathlib.Core.Logic.{_↔_, ⊎-elim}
 use mathlib.Core.Path.{_≡_, sym, _∙_}
 use native.Mathlib.Decide.{decLt}
 use native.Mathlib.Nat.{le-antisymm}
+use native.Mathlib.Numerals.{add-one}
 use native.Mathlib.Omega.{arith}
 use borrow.Author.Count.{below-more}
-use borrow.Author.Tests.{lt-ltb, le-ltb}
+use borrow.Author.Tests.{lt-ltb, le-ltb, ltb-false}
 use lib.Dec.{ltb}
 use Rattle.table.specs.Answers.{firstOf}
 use Rattle.table.proofs.Laws.{true-or-false}
@@ -54,6 +55,12 @@ unfolding firstOf
 first-is zero test = record { within = omega arith; below = below-none test; holds = λ l. absurd (omega arith) }
 first-is (suc n) test = first-more n test (firstOf n test) (first-is n test)
 
+-- how a loop that does not stop at the first goes on
+pub first-next :
+    (n : ℕ) (test : ℕ → Bool) → firstOf (n + 1) test ≡ cond (ltb (firstOf n test) n) (firstOf n test) (cond (test n) n (suc n))
+unfolding firstOf
+first-next n test = rw (add-one n)
+
 -- of two, neither is below the other
 not-below : {n : ℕ} {test : ℕ → Bool} {i j : ℕ} → First n test i → First n test j → i ≤ j
 not-below {n} {test} {i} {j} a b =
@@ -74,6 +81,11 @@ first-end n test i le ge below = first-only (record { within = le; below = below
 
 pub first-none : (n : ℕ) (test : ℕ → Bool) → Below test n → firstOf n test ≡ n
 first-none n test below = first-end n test n (omega arith) (omega arith) below
+
+-- `refuseFirst` refuses nothing exactly where the test fails below n
+pub none-refused : (n : ℕ) (test : ℕ → Bool) → (ltb (firstOf n test) n ≡ false) ↔ Below test n
+none-refused n test =
+    (λ e j l. first-is n test .below j (omega (arith, ltb-false (firstOf n test) n e)), λ below. rw (first-none n test below) (le-ltb n n (omega arith)))
 
 -- tests that agree below n have the same first
 pub first-ext : (n : ℕ) (f g : ℕ → Bool) → ((i : ℕ) → i < n → f i ≡ g i) → firstOf n f ≡ firstOf n g

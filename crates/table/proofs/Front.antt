@@ -16,7 +16,7 @@ use borrow.Author.Tests.{eq-eqb, ne-eqb}
 use Rattle.hash.specs.Hash.{hashOf, load, members, sum, cells}
 use Rattle.hash.proofs.Counting.{hash-lt}
 use Rattle.table.specs.Words.{codeCount, cellCount, multiplier, blockStart, blockEnd, blockMultiplier, blockOf, cellIn, ownCell}
-use Rattle.table.specs.TwoLevel.{tabulate, cellsMultiplier, startOf, frontWith}
+use Rattle.table.specs.TwoLevel.{tabulate, blocksMultiplier, cellsMultiplier, startOf, frontWith, frontOf}
 use Rattle.table.proofs.Tabulate.{tabulate-length, tabulate-head, tabulate-past}
 
 -- ---- the blocks
@@ -132,6 +132,10 @@ module _ (p k : ℕ) (codes : List ℕ) where
   -- of the front alone
   pub front-fronted : Fronted p k codes (frontWith p k codes)
   front-fronted = rw (append-nil (frontWith p k codes)) at (fronted [])
+
+pub frontOf-fronted : (p : ℕ) (codes : List ℕ) → Fronted p (blocksMultiplier p codes) codes (frontOf p codes)
+unfolding frontOf
+frontOf-fronted p codes = front-fronted p (blocksMultiplier p codes) codes
 
 -- ---- own cells
 

@@ -7,7 +7,7 @@ use native.Mathlib.Omega.{arith}
 use mathlib.Core.Bool.{Bool, cond}
 use mathlib.Core.List.{List, [], _∷_}
 use mathlib.Core.Logic.{_⊎_, inl, inr}
-use mathlib.Core.Path.{_≡_, refl, sym, ap, _∙_}
+use mathlib.Core.Path.{_≡_, refl, sym, ap, ap₂, _∙_}
 use lib.Dec.{eqb}
 use lib.ListN.{length, getD, take, set, replicate}
 use lib.Seq.{getD-take, length-take-le, take-length, take-all}
@@ -41,13 +41,25 @@ pub record Holder (p : ℕ) (front codes values : List ℕ) (i : ℕ) : Type 0 w
   pub its-own : ownCell p front (getD codes index 0) ≡ i
   pub holds : heldIn p front codes values i ≡ getD values index 0
 
+-- only the own cells of the codes matter
+pub held-same :
+    (p : ℕ) (front front′ codes values : List ℕ) (i : ℕ)
+    → ((x : ℕ) → x < length codes → ownCell p front (getD codes x 0) ≡ ownCell p front′ (getD codes x 0))
+    → heldIn p front codes values i ≡ heldIn p front′ codes values i
+unfolding heldIn
+held-same p front front′ [] values i same = refl
+held-same p front front′ (a ∷ codes) [] i same = refl
+held-same p front front′ (a ∷ codes) (v ∷ values) i same =
+    ap₂ (λ (o r : ℕ). cond (eqb o i) v r) (same 0 (omega arith))
+    (held-same p front front′ codes values i (λ x h. same (suc x) (omega arith)))
+
 module _ (p : ℕ) (front : List ℕ) where
-  held-here :
+  pub held-here :
       (a v : ℕ) (codes values : List ℕ) (i : ℕ) → ownCell p front a ≡ i → heldIn p front (a ∷ codes) (v ∷ values) i ≡ v
   unfolding heldIn
   held-here a v codes values i e = rw (eq-eqb (ownCell p front a) i e)
 
-  held-later :
+  pub held-later :
       (a v : ℕ) (codes values : List ℕ) (i : ℕ) → (ownCell p front a ≡ i → ⊥)
       → heldIn p front (a ∷ codes) (v ∷ values) i ≡ heldIn p front codes values i
   unfolding heldIn

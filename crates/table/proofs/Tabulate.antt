@@ -6,8 +6,8 @@ use native.Mathlib.Nat.{add-zero, add-suc}
 use native.Mathlib.Omega.{arith}
 use mathlib.Core.List.{List, [], _∷_, _++_, append-assoc, append-nil}
 use mathlib.Core.Path.{_≡_, refl, sym, ap, ap₂, _∙_}
-use lib.ListN.{length, getD, take, drop, set, replicate, length-append, length-set, length-replicate, getD-replicate, List·getD-append}
-use lib.Seq.{ext-getD, getD-at, getD-append-add, getD-set-same, getD-set-other}
+use lib.ListN.{length, getD, take, drop, set, replicate, length-append, length-drop, length-set, length-replicate, getD-replicate, List·getD-append}
+use lib.Seq.{length-take-le, getD-take, getD-drop, ext-getD, getD-at, getD-append-add, getD-set-same, getD-set-other}
 use Rattle.table.specs.TwoLevel.{tabulate}
 
 pub tabulate-length : (f : ℕ → ℕ) (n : ℕ) → length (tabulate f n) ≡ n
@@ -53,6 +53,14 @@ tabulate-head f n i rest h =
 pub tabulate-past : (f : ℕ → ℕ) (n i : ℕ) (rest : List ℕ) → getD (tabulate f n ++ rest) (n + i) 0 ≡ getD rest i 0
 tabulate-past f n i rest =
     ap (λ (m : ℕ). getD (tabulate f n ++ rest) (m + i) 0) (sym (tabulate-length f n)) ∙ getD-append-add (tabulate f n) rest i 0
+
+-- a part of a list
+pub part-tabulate :
+    (s : List ℕ) (m n : ℕ) → m + n ≤ length s → take n (drop m s) ≡ tabulate (λ i. getD s (m + i) 0) n
+part-tabulate s m n h =
+    let size : length (take n (drop m s)) ≡ n = length-take-le n (drop m s) (omega (arith, length-drop m s)) in
+    tabulate-is (λ i. getD s (m + i) 0) (take n (drop m s)) (λ i l. getD-take n (drop m s) i 0 (omega arith) ∙ getD-drop m s i 0)
+    ∙ ap (tabulate (λ i. getD s (m + i) 0)) size
 
 -- n zeros
 pub tabulate-zeros : (f : ℕ → ℕ) (n : ℕ) → ((i : ℕ) → i < n → f i ≡ 0) → replicate n 0 ≡ tabulate f n
