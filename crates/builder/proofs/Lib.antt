@@ -2,3 +2,5 @@
 pub mod Among
 mod Chains
 mod Groups
+mod Parts
+mod Filling

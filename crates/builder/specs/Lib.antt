@@ -2,3 +2,4 @@
 pub mod Build
 pub mod Chains
 pub mod Grouping
+pub mod Writing

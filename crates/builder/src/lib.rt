@@ -1,3 +1,4 @@
 // Build.
 pub mod grouping;
 pub mod lists;
+pub mod write;

@@ -1,0 +1,49 @@
+// The words of a table, part by part.
+ghost use Prim.Native.Nat.{_+_, _*_, _<_, _≤_};
+ghost use mathlib.Core.Path.{_≡_};
+ghost use lib.ListN.{length};
+ghost use Rattle.table.specs.TwoLevel.{tabulate};
+ghost use Rattle.builder.specs.Writing.{startAt, Offsets, Vacant, BlockWritten, Unfilled, filledWith};
+
+// Writes where each block starts: after the squares of the groups before it.
+fn write_starts(at: &[u32], starts: &mut [u32])
+    requires { ⌜ Offsets (length (now starts)) (now at) ⌝ }
+    ensures { λ _. ⌜ now (starts .exit) ≡ tabulate (startAt (now (at .entry))) (length (now (starts .entry))) ⌝ }
+{
+    let mut start: u32 = 0;
+    let mut j = 0;
+    while j < starts.len() {
+        starts[j] = start;
+        let m = at[j + 1] - at[j];
+        start += m * m;
+        j += 1;
+    }
+}
+
+// Writes the cells of one block from `start` on, which serve as marks for the search of its multiplier, and the multiplier at j. Gives where
+// the cells end.
+fn write_block(p: u32, block: &[u32], j: usize, start: usize, words: &mut [u32]) -> usize
+    requires { ⌜ Vacant p (now block) j start (now words) ⌝ }
+    ensures { λ r. ⌜ BlockWritten p (now (block .entry)) j start (now (words .entry)) r (now (words .exit)) ⌝ }
+{
+    let m = block.len();
+    let end = start + m * m;
+    let q = search::cells::cells_multiplier(p, block, &mut words[start..end]);
+    words[j] = q;
+    end
+}
+
+// Writes the multiplier of each group and, after all n of them, its cells.
+fn write_blocks(p: u32, n: usize, at: &[u32], grouped: &[u32], words: &mut [u32])
+    requires { ⌜ Unfilled p n (now at) (now grouped) (now words) ⌝ }
+    ensures { λ _. ⌜ now (words .exit) ≡ filledWith p n (now (at .entry)) (now (grouped .entry)) (length (now (words .entry))) ⌝ }
+{
+    let mut start = n;
+    let mut j = 0;
+    while j < n {
+        let from = at[j] as usize;
+        let to = at[j + 1] as usize;
+        start = write_block(p, &grouped[from..to], j, start, words);
+        j += 1;
+    }
+}
