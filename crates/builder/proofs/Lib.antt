@@ -4,3 +4,4 @@ mod Chains
 mod Groups
 mod Parts
 mod Filling
+mod Storing

@@ -3,8 +3,8 @@ use Prim.Native.Nat.{ℕ, zero, suc, _+_, _*_, _-_, _<_, _≤_}
 use mathlib.Core.List.{List, [], _++_}
 use mathlib.Core.Path.{_≡_}
 use lib.ListN.{length, getD, take, drop, set, replicate}
-use Rattle.hash.specs.Hash.{sum}
-use Rattle.table.specs.TwoLevel.{tabulate, cellsMultiplier}
+use Rattle.hash.specs.Hash.{sum, cells}
+use Rattle.table.specs.TwoLevel.{tabulate, cellsMultiplier, frontWith, heldIn}
 use Rattle.search.specs.Cells.{square, placedBy}
 use Rattle.search.specs.Searchable.{Searchable}
 
@@ -63,3 +63,13 @@ pub record Unfilled (p n : ℕ) (at grouped words : List ℕ) : Type 0 where
 abbrev pub filledWith : ℕ → ℕ → List ℕ → List ℕ → ℕ → List ℕ
 filledWith p n at grouped size =
     tabulate (multiplierAt p at grouped) n ++ (cellsAt p at grouped n ++ replicate (size - (n + startAt at n)) 0)
+
+-- a list, and the cells that multiplier k gives it
+pub record Writable (p k c : ℕ) (codes schedules : List ℕ) : Type 0 where
+  pub searchable : Searchable p codes
+  pub parallel : length schedules ≡ length codes
+  pub cells-are : c ≡ cells p k codes
+
+-- the table of a list before its schedules are written
+abbrev pub withCodes : ℕ → ℕ → ℕ → List ℕ → List ℕ
+withCodes p k c codes = frontWith p k codes ++ (tabulate (heldIn p (frontWith p k codes) codes codes) c ++ replicate c 0)

@@ -2,8 +2,10 @@
 ghost use Prim.Native.Nat.{_+_, _*_, _<_, _≤_};
 ghost use mathlib.Core.Path.{_≡_};
 ghost use lib.ListN.{length};
-ghost use Rattle.table.specs.TwoLevel.{tabulate};
-ghost use Rattle.builder.specs.Writing.{startAt, Offsets, Vacant, BlockWritten, Unfilled, filledWith};
+ghost use Rattle.table.specs.TwoLevel.{tabulate, frontWith, tableWith};
+ghost use Rattle.builder.specs.Writing.{startAt, Offsets, Vacant, BlockWritten, Unfilled, filledWith, Writable, withCodes};
+use crate::grouping::block_of;
+use table::words::cell_in;
 
 // Writes where each block starts: after the squares of the groups before it.
 fn write_starts(at: &[u32], starts: &mut [u32])
@@ -45,5 +47,22 @@ fn write_blocks(p: u32, n: usize, at: &[u32], grouped: &[u32], words: &mut [u32]
         let to = at[j + 1] as usize;
         start = write_block(p, &grouped[from..to], j, start, words);
         j += 1;
+    }
+}
+
+// Writes the schedule of each pair in its code's own cell.
+fn write_schedules(p: u32, k: u32, c: u32, codes: &[u32], schedules: &[u32], words: &mut [u32])
+    requires { ⌜ Writable p k c (now codes) (now schedules) ⌝ }
+    requires { ⌜ now words ≡ withCodes p k c (now codes) ⌝ }
+    ensures { λ _.
+        ⌜ now (words .exit) ≡ tableWith p (frontWith p k (now (codes .entry))) c (now (codes .entry)) (now (schedules .entry)) ⌝ }
+{
+    let first = 3 + 2 * codes.len() + (c as usize);
+    let mut i = 0;
+    while i < codes.len() {
+        let j = block_of(p, k, codes, i);
+        let cell = cell_in(p, words, j, codes[i]);
+        words[first + cell] = schedules[i];
+        i += 1;
     }
 }
