@@ -43,8 +43,8 @@ fn count_cells(p: u32, k: u32, codes: &[u32], counts: &mut [u32]) -> Count
     Count::Fits(c)
 }
 
-// The least multiplier that keeps the cells at most 3n - 2, and the cells under it. It never gives up: some multiplier below p does.
-// A list of no code has k = 1 and no cell.
+// The least multiplier from 1 to p - 1 that keeps the cells at most 3n - 2, and the cells under it. A list of no code has k = 1 and no
+// cell. The search never gives up: some multiplier keeps the bound, so that the loop is left by its answer alone.
 pub fn blocks_multiplier(p: u32, codes: &[u32]) -> Multiplier
     requires { ⌜ Searchable p (now codes) ⌝ }
     ensures { λ r. ⌜ LeastBlocks p (now (codes .entry)) (r .k) (r .c) ⌝ }
@@ -55,11 +55,12 @@ pub fn blocks_multiplier(p: u32, codes: &[u32]) -> Multiplier
     }
     let mut counts = [0u32; MOST];
     let mut k = 1;
-    loop {
+    while k < p {
         let count = count_cells(p, k, codes, &mut counts[..n]);
         if let Count::Fits(c) = count {
             return Multiplier { k, c };
         }
         k += 1;
     }
+    Multiplier { k, c: 0 }
 }

@@ -39,8 +39,9 @@ fn place_block(p: u32, q: u32, block: &[u32], cells: &mut [u32]) -> bool
     true
 }
 
-// The least multiplier that puts the codes of a block in different cells, and the cells, which are all 0, filled by it. It never gives
-// up: some multiplier below p does. A block of one code needs no search, and one of none has q = 1.
+// The least multiplier from 1 to p - 1 that puts the codes of a block in different cells, and the cells, which are all 0, filled by it.
+// A block of one code needs no search, and one of none has q = 1. The search never gives up: some multiplier separates the codes, so
+// that the loop is left by its answer alone.
 pub fn cells_multiplier(p: u32, block: &[u32], cells: &mut [u32]) -> u32
     requires { ⌜ Unplaced p (now block) (now cells) ⌝ }
     ensures { λ r. ⌜ LeastCells p (now (block .entry)) (now (cells .exit)) r ⌝ }
@@ -50,7 +51,10 @@ pub fn cells_multiplier(p: u32, block: &[u32], cells: &mut [u32]) -> u32
         return 1;
     }
     let mut q = 1;
-    while !place_block(p, q, block, cells) {
+    while q < p {
+        if place_block(p, q, block, cells) {
+            return q;
+        }
         q += 1;
     }
     q

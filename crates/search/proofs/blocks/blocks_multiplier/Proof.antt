@@ -27,9 +27,11 @@ loop-holds c = (next-start (c .before .before .pre .prime .two-le), refl)
 
 -- a count for each of n blocks is lent
 lent :
-    (c : tie.At-loop Inv-loop μ-loop)
-    → length (take (length (c .before .before .before .args .codes .now)) (c .loop .counts)) ≡ length (c .before .before .before .args .codes .now)
-lent c = length-take-le (length (c .before .before .before .args .codes .now)) (c .loop .counts) (omega arith)
+    (c : tie.In-loop Inv-loop μ-loop)
+    → length (take (length (c .before .before .before .before .args .codes .now)) (c .before .loop .counts))
+    ≡ length (c .before .before .before .before .args .codes .now)
+lent c =
+    length-take-le (length (c .before .before .before .before .args .codes .now)) (c .before .loop .counts) (omega arith)
 
 count-cells-requires : tie.Need-count-cells-requires Inv-loop μ-loop
 count-cells-requires c κs =
@@ -38,12 +40,12 @@ count-cells-requires c κs =
 returns-2 : tie.Need-returns-2 Inv-loop μ-loop
 returns-2 c =
     let called = c .before .before .before .before in
-    blocks-found (called .before .before .loop .inv .0) (omega arith) (called .count-cells .ensures) (c .before .count .given .1)
+    blocks-found (called .before .before .before .loop .inv .0) (omega arith) (called .count-cells .ensures) (c .before .count .given .1)
 
 loop-again : tie.Need-loop-again Inv-loop μ-loop
 loop-again c =
     let called = c .before .before .before in
-    let h = called .before .before in
+    let h = called .before .before .before in
     let start = h .before .before .before in (
       blocks-more (h .loop .inv .0) (omega arith) (called .count-cells .ensures) (start .pre) (c .enum-told .given .1),
       length-front (h .loop .counts) (called .count-cells .last .1 .1 .1 .0) (length (start .args .codes .now))
@@ -67,4 +69,5 @@ blocks-multiplier-spec =
     (λ c. search needs)
     (λ c. omega arith)
     (λ c. omega arith)
-    loop-again)
+    loop-again
+    (λ c. absurd (omega arith)))

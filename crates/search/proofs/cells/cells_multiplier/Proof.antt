@@ -4,7 +4,6 @@ use Prim.Native.Nat.{_-_}
 use mathlib.Core.Path.{_≡_, refl, ap, _∙_}
 use native.Mathlib.Omega.{arith}
 use borrow.Author.Needs.{needs}
-use borrow.Author.Tests.{not-true, not-false}
 use lib.ListN.{length}
 use Rattle.search.specs.Cells.{separates}
 use Rattle.search.proofs.Tries.{Next, next-start}
@@ -32,29 +31,27 @@ loop-holds c = (next-start (c .before .before .before .pre .codes .prime .two-le
 
 place-block-requires : tie.Need-place-block-requires Inv-loop μ-loop
 place-block-requires c κs =
-    let h = c .before in
+    let h = c .before .before in
     let start = h .before .before .before .before in
     record { codes = start .pre .codes; zeros = h .loop .inv .1 ∙ start .pre .zeros }
-
-loop-again : tie.Need-loop-again Inv-loop μ-loop
-loop-again c =
-    let called = c .before .before .before in
-    let h = called .before .before in
-    let (next, kept) =
-    cells-more (h .loop .inv .0) (called .place-block .ensures) (h .before .before .before .before .pre .codes)
-    (not-true (called .place-block .result) (c .if2 .taken)) in
-    (next, kept ∙ h .loop .inv .1)
 
 same-length-2 : tie.Need-same-length-2 Inv-loop μ-loop
 same-length-2 c =
     let called = c .before .before .before in
-    called .place-block .kept .1 .1 .1 .0 ∙ ap length (called .before .before .loop .inv .1)
+    called .place-block .kept .1 .1 .1 .0 ∙ ap length (called .before .before .before .loop .inv .1)
 
 returns-2 : tie.Need-returns-2 Inv-loop μ-loop
 returns-2 c =
     let called = c .before .before .before in
-    cells-found (called .before .before .loop .inv .0) (called .place-block .ensures)
-    (not-false (called .place-block .result) (c .if2 .left))
+    cells-found (called .before .before .before .loop .inv .0) (called .place-block .ensures) (c .if2 .taken)
+
+loop-again : tie.Need-loop-again Inv-loop μ-loop
+loop-again c =
+    let called = c .before .before .before in
+    let h = called .before .before .before in
+    let (next, kept) =
+    cells-more (h .loop .inv .0) (called .place-block .ensures) (h .before .before .before .before .pre .codes) (c .if2 .left) in
+    (next, kept ∙ h .loop .inv .1)
 
 pub cells-multiplier-spec : {M : Type 1} → statement M
 cells-multiplier-spec =
@@ -68,8 +65,10 @@ cells-multiplier-spec =
     returns
     loop-holds
     place-block-requires
+    same-length-2
+    returns-2
     (λ c. omega arith)
     (λ c. omega arith)
     loop-again
-    same-length-2
-    returns-2)
+    (λ c. absurd (omega arith))
+    (λ c. absurd (omega arith)))
