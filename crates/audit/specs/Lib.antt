@@ -2,5 +2,6 @@
 pub mod Check
 pub mod WellFormed
 pub mod Pairs
+pub mod Merge
 pub mod Checked
 pub mod Blocks
