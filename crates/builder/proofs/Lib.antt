@@ -5,3 +5,4 @@ mod Groups
 mod Parts
 mod Filling
 mod Storing
+mod Assembly

@@ -48,7 +48,7 @@ module _ {p k c : ℕ} {codes schedules : List ℕ} (w : Writable p k c codes sc
   S i = tabulate (heldIn p (frontWith p k codes) (take i codes) (take i schedules)) c
 
   apart : Apart p F codes
-  apart = listed-apart (w .searchable .prime) k codes (w .searchable .valid) F (front-fronted p k codes)
+  apart = listed-apart (w .celled .searchable .prime) k codes (w .celled .searchable .valid) F (front-fronted p k codes)
 
   pub storing-start : {words : List ℕ} → words ≡ withCodes p k c codes → Storing p k c codes schedules 0 words
   storing-start {words} is =
@@ -79,7 +79,7 @@ module _ {p k c : ℕ} {codes schedules : List ℕ} (w : Writable p k c codes sc
       storing-block =
           let f : Fronted p k codes words = storing-front in
           record {
-            whole = omega (arith, f .counts, f .celled, storing-length, w .cells-are);
+            whole = omega (arith, f .counts, f .celled, storing-length, w .celled .cells-are);
             below = omega (arith, f .counts);
           }
 
@@ -99,8 +99,8 @@ module _ {p k c : ℕ} {codes schedules : List ℕ} (w : Writable p k c codes sc
 
       own-below : ownCell p F (getD codes i 0) < c
       own-below =
-          rw (w .cells-are)
-          (listed-own-lt (w .searchable .prime) k codes (w .searchable .valid) F (front-fronted p k codes) i l)
+          rw (w .celled .cells-are)
+          (listed-own-lt (w .celled .searchable .prime) k codes (w .celled .searchable .valid) F (front-fronted p k codes) i l)
 
       module _ (cell : ℕ) (is : cell ≡ cellIn p words j (getD codes i 0)) where
         pub storing-room : 3 + 2 * length codes + c + cell < length words

@@ -1,6 +1,6 @@
 -- The words of a table, from the codes grouped by block: `at` has where each group starts, and where the last one ends.
 use Prim.Native.Nat.{ℕ, zero, suc, _+_, _*_, _-_, _<_, _≤_}
-use mathlib.Core.List.{List, [], _++_}
+use mathlib.Core.List.{List, [], _∷_, _++_}
 use mathlib.Core.Path.{_≡_}
 use lib.ListN.{length, getD, take, drop, set, replicate}
 use Rattle.hash.specs.Hash.{sum, cells}
@@ -64,11 +64,23 @@ abbrev pub filledWith : ℕ → ℕ → List ℕ → List ℕ → ℕ → List �
 filledWith p n at grouped size =
     tabulate (multiplierAt p at grouped) n ++ (cellsAt p at grouped n ++ replicate (size - (n + startAt at n)) 0)
 
--- a list, and the cells that multiplier k gives it
-pub record Writable (p k c : ℕ) (codes schedules : List ℕ) : Type 0 where
+-- words that begin with n, c and k, and are 0 after them
+abbrev pub headed : ℕ → ℕ → ℕ → ℕ → List ℕ
+headed n c k size = n ∷ c ∷ k ∷ replicate (size - 3) 0
+
+-- the same with the starts of n groups after k
+abbrev pub started : ℕ → ℕ → ℕ → List ℕ → ℕ → List ℕ
+started n c k at size = (n ∷ c ∷ k ∷ []) ++ (tabulate (startAt at) n ++ replicate (size - (3 + n)) 0)
+
+-- codes, and the cells that multiplier k gives them
+pub record Celled (p k c : ℕ) (codes : List ℕ) : Type 0 where
   pub searchable : Searchable p codes
-  pub parallel : length schedules ≡ length codes
   pub cells-are : c ≡ cells p k codes
+
+-- and a schedule for each of them
+pub record Writable (p k c : ℕ) (codes schedules : List ℕ) : Type 0 where
+  pub celled : Celled p k c codes
+  pub parallel : length schedules ≡ length codes
 
 -- the table of a list before its schedules are written
 abbrev pub withCodes : ℕ → ℕ → ℕ → List ℕ → List ℕ

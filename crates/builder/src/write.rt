@@ -3,9 +3,22 @@ ghost use Prim.Native.Nat.{_+_, _*_, _<_, _≤_};
 ghost use mathlib.Core.Path.{_≡_};
 ghost use lib.ListN.{length};
 ghost use Rattle.table.specs.TwoLevel.{tabulate, frontWith, tableWith};
-ghost use Rattle.builder.specs.Writing.{startAt, Offsets, Vacant, BlockWritten, Unfilled, filledWith, Writable, withCodes};
+ghost use Rattle.builder.specs.Writing.{startAt, headed, started, Offsets, Vacant, BlockWritten, Unfilled, filledWith, Celled, Writable, withCodes};
 use crate::grouping::block_of;
+use crate::grouping::group;
+use crate::lists::ROOM;
 use table::words::cell_in;
+
+// Writes n, c and k, and 0 in all words after them.
+fn write_header(n: u32, c: u32, k: u32, words: &mut [u32])
+    requires { ⌜ 3 ≤ length (now words) ⌝ }
+    ensures { λ _. ⌜ now (words .exit) ≡ headed n c k (length (now (words .entry))) ⌝ }
+{
+    search::zeros::clear(words);
+    words[0] = n;
+    words[1] = c;
+    words[2] = k;
+}
 
 // Writes where each block starts: after the squares of the groups before it.
 fn write_starts(at: &[u32], starts: &mut [u32])
@@ -48,6 +61,32 @@ fn write_blocks(p: u32, n: usize, at: &[u32], grouped: &[u32], words: &mut [u32]
         start = write_block(p, &grouped[from..to], j, start, words);
         j += 1;
     }
+}
+
+// Writes n, c, k and the starts of n groups, and 0 in all words after them.
+fn write_front(n: usize, c: u32, k: u32, at: &[u32], words: &mut [u32])
+    requires { ⌜ Offsets n (now at) ⌝ }
+    requires { ⌜ (n ≤ 2048) × (3 + n ≤ length (now words)) ⌝ }
+    ensures { λ _. ⌜ now (words .exit) ≡ started n c k (now (at .entry)) (length (now (words .entry))) ⌝ }
+{
+    write_header(n as u32, c, k, words);
+    let end = 3 + n;
+    write_starts(at, &mut words[3..end]);
+}
+
+// Writes a table but for its schedules, which are left 0.
+fn write_codes(p: u32, k: u32, c: u32, codes: &[u32], words: &mut [u32])
+    requires { ⌜ Celled p k c (now codes) ⌝ }
+    requires { ⌜ length (now words) ≡ 3 + 2 * length (now codes) + 2 * c ⌝ }
+    ensures { λ _. ⌜ now (words .exit) ≡ withCodes p k c (now (codes .entry)) ⌝ }
+{
+    let n = codes.len();
+    let mut at = [0u32; 2049];
+    let mut grouped = [0u32; ROOM];
+    group(p, k, codes, &mut at, &mut grouped);
+    write_front(n, c, k, &at, words);
+    let multipliers = 3 + n;
+    write_blocks(p, n, &at, &grouped, &mut words[multipliers..]);
 }
 
 // Writes the schedule of each pair in its code's own cell.
