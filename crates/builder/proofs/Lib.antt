@@ -6,3 +6,4 @@ mod Parts
 mod Filling
 mod Storing
 mod Assembly
+mod Outcomes

@@ -1,4 +1,5 @@
 // Build.
-pub mod grouping;
-pub mod lists;
-pub mod write;
+pub mod build;
+mod grouping;
+mod lists;
+mod write;

@@ -81,7 +81,7 @@ fn write_codes(p: u32, k: u32, c: u32, codes: &[u32], words: &mut [u32])
     ensures { λ _. ⌜ now (words .exit) ≡ withCodes p k c (now (codes .entry)) ⌝ }
 {
     let n = codes.len();
-    let mut at = [0u32; 2049];
+    let mut at = [0u32; ROOM + 1];
     let mut grouped = [0u32; ROOM];
     group(p, k, codes, &mut at, &mut grouped);
     write_front(n, c, k, &at, words);
@@ -104,4 +104,15 @@ fn write_schedules(p: u32, k: u32, c: u32, codes: &[u32], schedules: &[u32], wor
         words[first + cell] = schedules[i];
         i += 1;
     }
+}
+
+// Writes the table of a list, which the words have room for exactly.
+pub fn write_table(p: u32, k: u32, c: u32, codes: &[u32], schedules: &[u32], words: &mut [u32])
+    requires { ⌜ Writable p k c (now codes) (now schedules) ⌝ }
+    requires { ⌜ length (now words) ≡ 3 + 2 * length (now codes) + 2 * c ⌝ }
+    ensures { λ _.
+        ⌜ now (words .exit) ≡ tableWith p (frontWith p k (now (codes .entry))) c (now (codes .entry)) (now (schedules .entry)) ⌝ }
+{
+    write_codes(p, k, c, codes, words);
+    write_schedules(p, k, c, codes, schedules, words);
 }
