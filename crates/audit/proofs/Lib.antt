@@ -1,5 +1,6 @@
--- In reading order: the codes of a run of cells, the blocks that follow one another, and one pass over them;
+-- In reading order: what the sizes bound, the codes of a run of cells, the blocks that follow one another, and one pass over them;
 -- then what the tests of a check tell, and the tables that it accepts.
+pub mod Bounds
 pub mod Counting
 pub mod Partition
 pub mod Survey
