@@ -4,3 +4,4 @@ pub mod WellFormed
 pub mod Pairs
 pub mod Checked
 pub mod Blocks
+pub mod Sorting

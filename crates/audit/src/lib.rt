@@ -2,3 +2,4 @@
 pub mod blocks;
 pub mod check;
 pub mod conditions;
+pub mod sorting;
