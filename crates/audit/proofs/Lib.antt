@@ -8,3 +8,5 @@ pub mod Passing
 pub mod WellFormed
 pub mod Merging
 pub mod Runs
+pub mod Keys
+pub mod Reading

@@ -5,3 +5,4 @@ pub mod Pairs
 pub mod Checked
 pub mod Blocks
 pub mod Sorting
+pub mod ReadBack
