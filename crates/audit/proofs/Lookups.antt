@@ -21,7 +21,8 @@ use Rattle.table.proofs.Refusals.{never-both}
 use Rattle.audit.specs.WellFormed.{WellFormed}
 use Rattle.audit.specs.Blocks.{Starts}
 use Rattle.audit.proofs.Partition.{block-lt, start-le-end, end-within, cell-lt}
-use Rattle.audit.proofs.WellFormed.{some-codes, cells-hold}
+use Rattle.audit.proofs.Bounds.{some-codes}
+use Rattle.audit.proofs.WellFormed.{cells-hold}
 
 -- x is from low to high
 within-holds : (low high x : ℕ) → low ≤ x → x ≤ high → outside low high x ≡ false
