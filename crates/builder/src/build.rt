@@ -3,7 +3,7 @@ ghost use Prim.Native.Nat.{_+_, _*_, _≤_};
 ghost use mathlib.Core.Path.{_≡_};
 ghost use lib.ListN.{length};
 ghost use Rattle.hash.specs.Theorems.{Prime};
-ghost use Rattle.search.specs.Searchable.{Searchable};
+ghost use Rattle.search.specs.Searchable.{Searchable, mostCodes};
 ghost use Rattle.builder.specs.Build.{Built};
 ghost use Rattle.builder.specs.Built.{builtOf, Accepted};
 use crate::lists::first_outside;
@@ -53,7 +53,7 @@ pub fn build_at(
     words: &mut [u32],
 ) -> BuildAnswer
     requires { ⌜ Prime p ⌝ }
-    requires { ⌜ limit ≤ 2048 ⌝ }
+    requires { ⌜ limit ≤ mostCodes ⌝ }
     ensures { λ r.
         ⌜ Built p limit (now (codes .entry)) (now (schedules .entry)) (now (words .entry)) (builtOf r) (now (words .exit)) ⌝ }
 {
