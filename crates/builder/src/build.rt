@@ -1,5 +1,5 @@
 // Building a table from a list (document 01, "Build"). A refusal changes no word.
-ghost use Prim.Native.Nat.{_+_, _*_, _≤_};
+ghost use Prim.Native.Nat.{_≤_};
 ghost use mathlib.Core.Path.{_≡_};
 ghost use lib.ListN.{length};
 ghost use Rattle.hash.specs.Theorems.{Prime};
@@ -37,11 +37,13 @@ fn build_accepted(p: u32, codes: &[u32], schedules: &[u32], words: &mut [u32]) -
     let k = found.k;
     let c = found.c;
     let total = 3 + 2 * codes.len() + 2 * (c as usize);
-    if words.len() < total {
-        return BuildAnswer::TooShort(total as u32);
+    let given = total as u32;
+    let lent = words.len();
+    if lent < total {
+        return BuildAnswer::TooShort(given);
     }
     write_table(p, k, c, codes, schedules, &mut words[..total]);
-    BuildAnswer::Built(total as u32)
+    BuildAnswer::Built(given)
 }
 
 // Builds the table of a list, for any prime and limit on the pairs. Gives the total; the words after the table are kept.

@@ -14,14 +14,14 @@ pub const ROOM: usize = 2048;
 pub fn first_outside(high: u32, list: &[u32]) -> usize
     ensures { λ r. ⌜ r ≡ firstOf (length (now (list .entry))) (λ i. outside 1 high (getD (now (list .entry)) i 0)) ⌝ }
 {
-    let mut i = 0;
-    while i < list.len() {
-        if table::words::outside(1, high, list[i]) {
-            return i;
+    let mut j = 0;
+    while j < list.len() {
+        if table::words::outside(1, high, list[j]) {
+            return j;
         }
-        i += 1;
+        j += 1;
     }
-    i
+    j
 }
 
 // Whether a is among the codes before `from`, on whose chain of equal residues it would be. A chain goes from a code's index plus one to
@@ -51,14 +51,15 @@ pub fn first_repeated(codes: &[u32]) -> usize
     let mut i = 0;
     while i < codes.len() {
         let a = codes[i];
+        let after = i + 1;
         let chain = (a as usize) % ROOM;
         let from = last[chain];
         if in_chain(codes, &next, from as usize, a) {
             return i;
         }
         next[i] = from;
-        last[chain] = (i + 1) as u16;
-        i += 1;
+        last[chain] = after as u16;
+        i = after;
     }
     i
 }

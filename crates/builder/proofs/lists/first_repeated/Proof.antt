@@ -68,14 +68,13 @@ first-repeated-spec =
     loop-holds
     (λ c. search needs)
     (λ c. search needs)
+    (λ c. search needs)
     cast-chain
     (λ c. search needs)
     (λ c. search needs)
     cast-in-chain
     in-chain-requires
     returns
-    (λ c. search needs)
-    (λ c. search needs)
     (λ c. search needs)
     (λ c. search needs)
     (λ c. search needs)
