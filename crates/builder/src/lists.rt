@@ -3,31 +3,32 @@ ghost use Prim.Native.Nat.{_≤_};
 ghost use mathlib.Core.Path.{_≡_};
 ghost use lib.ListN.{length, getD, take};
 ghost use Rattle.table.specs.Answers.{firstOf, outside};
+ghost use Rattle.search.specs.Searchable.{mostCodes};
 ghost use Rattle.builder.specs.Build.{among, repeated};
 ghost use Rattle.builder.specs.Chains.{Chain};
 
-// The most pairs that the local arrays hold.
+// The most pairs of a list, for which the local arrays have room. It is as well the number of chains.
 pub const ROOM: usize = 2048;
 
 // The first number of a list that is not from 1 to high.
 pub fn first_outside(high: u32, list: &[u32]) -> usize
     ensures { λ r. ⌜ r ≡ firstOf (length (now (list .entry))) (λ i. outside 1 high (getD (now (list .entry)) i 0)) ⌝ }
 {
-    let mut i = 0;
-    while i < list.len() {
-        if table::words::outside(1, high, list[i]) {
-            return i;
+    let mut j = 0;
+    while j < list.len() {
+        if table::words::outside(1, high, list[j]) {
+            return j;
         }
-        i += 1;
+        j += 1;
     }
-    i
+    j
 }
 
 // Whether a is among the codes before `from`, on whose chain of equal residues it would be. A chain goes from a code's index plus one to
 // that of the one before it, down to 0.
 fn in_chain(codes: &[u32], next: &[u16; ROOM], from: usize, a: u32) -> bool
-    requires { ⌜ length (now codes) ≤ 2048 ⌝ }
-    requires { ⌜ Chain 2048 (now codes) (now next) from a ⌝ }
+    requires { ⌜ length (now codes) ≤ mostCodes ⌝ }
+    requires { ⌜ Chain mostCodes (now codes) (now next) from a ⌝ }
     ensures { λ r. ⌜ r ≡ among a (take from (now (codes .entry))) ⌝ }
 {
     let mut at = from;
@@ -42,7 +43,7 @@ fn in_chain(codes: &[u32], next: &[u16; ROOM], from: usize, a: u32) -> bool
 
 // The first code that is equal to an earlier one. Codes are compared along chains of equal residues only.
 pub fn first_repeated(codes: &[u32]) -> usize
-    requires { ⌜ length (now codes) ≤ 2048 ⌝ }
+    requires { ⌜ length (now codes) ≤ mostCodes ⌝ }
     ensures { λ r. ⌜ r ≡ firstOf (length (now (codes .entry))) (repeated (now (codes .entry))) ⌝ }
 {
     let mut last = [0u16; ROOM];
@@ -50,14 +51,15 @@ pub fn first_repeated(codes: &[u32]) -> usize
     let mut i = 0;
     while i < codes.len() {
         let a = codes[i];
-        let chain = (a % 2048) as usize;
+        let after = i + 1;
+        let chain = (a as usize) % ROOM;
         let from = last[chain];
         if in_chain(codes, &next, from as usize, a) {
             return i;
         }
         next[i] = from;
-        last[chain] = (i + 1) as u16;
-        i += 1;
+        last[chain] = after as u16;
+        i = after;
     }
     i
 }

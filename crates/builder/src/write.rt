@@ -2,6 +2,7 @@
 ghost use Prim.Native.Nat.{_+_, _*_, _<_, _≤_};
 ghost use mathlib.Core.Path.{_≡_};
 ghost use lib.ListN.{length};
+ghost use Rattle.search.specs.Searchable.{mostCodes};
 ghost use Rattle.table.specs.TwoLevel.{tabulate, frontWith, tableWith};
 ghost use Rattle.builder.specs.Writing.{startAt, headed, started, Offsets, Vacant, BlockWritten, Unfilled, filledWith, Celled, Writable, withCodes};
 use crate::grouping::block_of;
@@ -66,7 +67,7 @@ fn write_blocks(p: u32, n: usize, at: &[u32], grouped: &[u32], words: &mut [u32]
 // Writes n, c, k and the starts of n groups, and 0 in all words after them.
 fn write_front(n: usize, c: u32, k: u32, at: &[u32], words: &mut [u32])
     requires { ⌜ Offsets n (now at) ⌝ }
-    requires { ⌜ (n ≤ 2048) × (3 + n ≤ length (now words)) ⌝ }
+    requires { ⌜ (n ≤ mostCodes) × (3 + n ≤ length (now words)) ⌝ }
     ensures { λ _. ⌜ now (words .exit) ≡ started n c k (now (at .entry)) (length (now (words .entry))) ⌝ }
 {
     write_header(n as u32, c, k, words);

@@ -7,8 +7,8 @@ use Rattle.builder.proofs.Outcomes.{total-fits, too-short, accepted-wri
 use Rattle.builder.proofs.build.build_accepted.Statement.{statement}
 use Rattle.builder.proofs.build.build_accepted.Tie as tie
 
-cast-t15 : tie.Need-cast-t15
-cast-t15 c = record { fits = total-fits (c .before .before .before .before .before .pre .0) (c .before .blocks-multiplier .ensures) }
+cast-given : tie.Need-cast-given
+cast-given c = record { fits = total-fits (c .before .before .before .before .pre .0) (c .blocks-multiplier .ensures) }
 
 returns : tie.Need-returns
 returns c =
@@ -21,11 +21,6 @@ write-table-requires : tie.Need-write-table-requires
 write-table-requires c κs =
     let start = c .before .before .before .before .before .before in
     (accepted-writable (start .pre .0) (c .before .before .blocks-multiplier .ensures) _ (start .pre .1), length-take-le _ _ (c .before .if1 .left))
-
-cast-t19 : tie.Need-cast-t19
-cast-t19 c =
-    let found = c .before .before .before .before .before in
-    record { fits = total-fits (found .before .before .before .before .pre .0) (found .blocks-multiplier .ensures) }
 
 returns-2 : tie.Need-returns-2
 returns-2 c =
@@ -43,11 +38,10 @@ build-accepted-spec =
     (λ c. search needs)
     (λ c. search needs)
     (λ c. search needs)
-    cast-t15
+    cast-given
     returns
     (λ c. search needs)
     slice-aggregate-write-table
     write-table-requires
-    cast-t19
     (λ c. search needs)
     returns-2)

@@ -10,10 +10,10 @@ use Rattle.builder.proofs.lists.first_outside.Statement.{statement}
 use Rattle.builder.proofs.lists.first_outside.Tie as tie
 
 abbrev Inv-loop : tie.InvT-loop
-Inv-loop high list i₀ i = (i ≤ length list) × Below (λ (j : ℕ). outside 1 high (getD list j 0)) i
+Inv-loop high list j₀ j = (j ≤ length list) × Below (λ (j : ℕ). outside 1 high (getD list j 0)) j
 
 abbrev μ-loop : tie.MeasureT-loop
-μ-loop high list i₀ i = length list - i
+μ-loop high list j₀ j = length list - j
 
 loop-holds : tie.Need-loop-holds Inv-loop μ-loop
 loop-holds c = (search needs, below-none _)
@@ -21,15 +21,15 @@ loop-holds c = (search needs, below-none _)
 returns : tie.Need-returns Inv-loop μ-loop
 returns c =
     let at = c .before .before .before .before .loop in
-    sym (first-found _ _ (at .i) (search needs) (at .inv .1) (sym (c .before .outside .ensures) ∙ c .if1 .taken))
+    sym (first-found _ _ (at .j) (search needs) (at .inv .1) (sym (c .before .outside .ensures) ∙ c .if1 .taken))
 
 loop-again : tie.Need-loop-again Inv-loop μ-loop
 loop-again c =
     let at = c .before .before .before .before .loop in
-    (search needs, below-next _ (at .i) (at .inv .1) (sym (c .before .outside .ensures) ∙ c .if1 .left))
+    (search needs, below-next _ (at .j) (at .inv .1) (sym (c .before .outside .ensures) ∙ c .if1 .left))
 
 returns-2 : tie.Need-returns-2 Inv-loop μ-loop
-returns-2 c = sym (first-end _ _ (c .before .loop .i) (search needs) (search needs) (c .before .loop .inv .1))
+returns-2 c = sym (first-end _ _ (c .before .loop .j) (search needs) (search needs) (c .before .loop .inv .1))
 
 pub first-outside-spec : {M : Type 1} → statement M
 first-outside-spec =

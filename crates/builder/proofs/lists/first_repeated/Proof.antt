@@ -7,19 +7,23 @@ use native.Mathlib.Omega.{arith}
 use borrow.Author.Needs.{needs}
 use lib.ListN.{length, getD}
 use Rattle.table.proofs.First.{Below, below-none, below-next, first-found, first-end}
+use Rattle.search.specs.Searchable.{mostCodes}
 use Rattle.builder.specs.Build.{repeated}
 use Rattle.builder.proofs.Chains.{Chains, chains-start, chains-chain, chains-among, chains-more}
 use Rattle.builder.proofs.lists.first_repeated.Statement.{statement}
 use Rattle.builder.proofs.lists.first_repeated.Tie as tie
 
 abbrev Inv-loop : tie.InvT-loop
-Inv-loop codes last₀ next₀ i₀ last next i = Chains 2048 codes last next i × ((length next ≡ 2048) × ((i ≤ length codes) × Below (repeated codes) i))
+Inv-loop codes last₀ next₀ i₀ last next i = Chains mostCodes codes last next i × ((length next ≡ mostCodes) × ((i ≤ length codes) × Below (repeated codes) i))
 
 abbrev μ-loop : tie.MeasureT-loop
 μ-loop codes last₀ next₀ i₀ last next i = length codes - i
 
 loop-holds : tie.Need-loop-holds Inv-loop μ-loop
-loop-holds c = (chains-start 2048 _ _ (search needs), (refl, (search needs, below-none _)))
+loop-holds c = (chains-start mostCodes _ _ (search needs), (refl, (search needs, below-none _)))
+
+cast-chain : tie.Need-cast-chain Inv-loop μ-loop
+cast-chain c = omega (arith, c .shared-slice-known2 .given (c .before .before .loop .i))
 
 cast-in-chain : tie.Need-cast-in-chain Inv-loop μ-loop
 cast-in-chain c =
@@ -65,13 +69,12 @@ first-repeated-spec =
     (λ c. search needs)
     (λ c. search needs)
     (λ c. search needs)
+    cast-chain
     (λ c. search needs)
     (λ c. search needs)
     cast-in-chain
     in-chain-requires
     returns
-    (λ c. search needs)
-    (λ c. search needs)
     (λ c. search needs)
     (λ c. search needs)
     (λ c. search needs)

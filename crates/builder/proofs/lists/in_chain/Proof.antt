@@ -4,6 +4,7 @@ use mathlib.Core.Path.{_≡_, refl, sym, _∙_}
 use native.Mathlib.Omega.{arith}
 use borrow.Author.Needs.{needs}
 use lib.ListN.{take}
+use Rattle.search.specs.Searchable.{mostCodes}
 use Rattle.builder.specs.Build.{among}
 use Rattle.builder.specs.Chains.{Chain}
 use Rattle.builder.proofs.Chains.{chain-none, chain-found, chain-next}
@@ -11,7 +12,7 @@ use Rattle.builder.proofs.lists.in_chain.Statement.{statement}
 use Rattle.builder.proofs.lists.in_chain.Tie as tie
 
 abbrev Inv-loop : tie.InvT-loop
-Inv-loop codes next from a at₀ at = Chain 2048 codes next at a × (among a (take at codes) ≡ among a (take from codes))
+Inv-loop codes next from a at₀ at = Chain mostCodes codes next at a × (among a (take at codes) ≡ among a (take from codes))
 
 abbrev μ-loop : tie.MeasureT-loop
 μ-loop codes next from a at₀ at = at
