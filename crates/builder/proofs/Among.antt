@@ -36,7 +36,9 @@ among-append a (x ∷ s) t = rw (among-append a s t) (sym (or-assoc (eqb a x) (a
 
 pub among-suc : (a : ℕ) (codes : List ℕ) (n : ℕ) → n < length codes → among a (take (suc n) codes) ≡ among a (take n codes) || eqb a (getD codes n 0)
 unfolding among
-among-suc a codes n l = rw (take-suc codes n 0 l, among-append a (take n codes) (getD codes n 0 ∷ [])) (ap (λ (b : Bool). among a (take n codes) || b) (or-no (eqb a (getD codes n 0))))
+among-suc a codes n l =
+    rw (take-suc codes n 0 l, among-append a (take n codes) (getD codes n 0 ∷ []))
+    (ap (λ (b : Bool). among a (take n codes) || b) (or-no (eqb a (getD codes n 0))))
 
 pub among-here : (a : ℕ) (codes : List ℕ) (n : ℕ) → n < length codes → getD codes n 0 ≡ a → among a (take (suc n) codes) ≡ true
 among-here a codes n l e = rw (among-suc a codes n l, eq-eqb a (getD codes n 0) (sym e)) (or-yes (among a (take n codes)))

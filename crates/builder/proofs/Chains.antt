@@ -65,8 +65,12 @@ pub chain-none : (a : ℕ) (codes : List ℕ) (at : ℕ) → at ≤ 0 → among 
 unfolding among
 chain-none a codes at l = let e : at ≡ 0 = omega arith in rw e
 
-pub chain-found : {w : ℕ} {codes next : List ℕ} {at a : ℕ} → Chain w codes next at a → 0 < at → getD codes (at - 1) 0 ≡ a → among a (take at codes) ≡ true
-chain-found {w} {codes} {next} {at} {a} r l e = let s : at ≡ suc (at - 1) = omega arith in rw s (among-here a codes (at - 1) (omega (arith, r .within)) e)
+pub chain-found :
+    {w : ℕ} {codes next : List ℕ} {at a : ℕ} → Chain w codes next at a → 0 < at → getD codes (at - 1) 0 ≡ a
+    → among a (take at codes) ≡ true
+chain-found {w} {codes} {next} {at} {a} r l e =
+    let s : at ≡ suc (at - 1) = omega arith in
+    rw s (among-here a codes (at - 1) (omega (arith, r .within)) e)
 
 pub chain-next :
     {w : ℕ} {codes next : List ℕ} {at a : ℕ} → Chain w codes next at a → 0 < at → (getD codes (at - 1) 0 ≡ a → ⊥)

@@ -19,10 +19,7 @@ use Rattle.table.proofs.Own.{listed-load, listed-own-lt, listed-apart}
 use Rattle.builder.specs.Writing.{Writable, withCodes}
 use Rattle.builder.proofs.Parts.{set-past}
 
--- the words before the schedules
-abbrev codesTo : ℕ → ℕ → ℕ → List ℕ → List ℕ
-codesTo p k c codes = frontWith p k codes ++ tabulate (heldIn p (frontWith p k codes) codes codes) c
-
+-- the first i schedules are written
 pub record Storing (p k c : ℕ) (codes schedules : List ℕ) (i : ℕ) (words : List ℕ) : Type 0 where
   pub left : i ≤ length codes
   pub words-are :

@@ -8,10 +8,10 @@ ghost use Rattle.builder.specs.Build.{among, repeated};
 ghost use Rattle.builder.specs.Chains.{Chain};
 
 // The most pairs of a list, for which the local arrays have room. It is as well the number of chains.
-pub const ROOM: usize = 2048;
+pub(crate) const ROOM: usize = 2048;
 
 // The first number of a list that is not from 1 to high.
-pub fn first_outside(high: u32, list: &[u32]) -> usize
+pub(crate) fn first_outside(high: u32, list: &[u32]) -> usize
     ensures { λ r. ⌜ r ≡ firstOf (length (now (list .entry))) (λ i. outside 1 high (getD (now (list .entry)) i 0)) ⌝ }
 {
     let mut j = 0;
@@ -42,7 +42,7 @@ fn in_chain(codes: &[u32], next: &[u16; ROOM], from: usize, a: u32) -> bool
 }
 
 // The first code that is equal to an earlier one. Codes are compared along chains of equal residues only.
-pub fn first_repeated(codes: &[u32]) -> usize
+pub(crate) fn first_repeated(codes: &[u32]) -> usize
     requires { ⌜ length (now codes) ≤ mostCodes ⌝ }
     ensures { λ r. ⌜ r ≡ firstOf (length (now (codes .entry))) (repeated (now (codes .entry))) ⌝ }
 {

@@ -108,7 +108,14 @@ fn write_schedules(p: u32, k: u32, c: u32, codes: &[u32], schedules: &[u32], wor
 }
 
 // Writes the table of a list, which the words have room for exactly.
-pub fn write_table(p: u32, k: u32, c: u32, codes: &[u32], schedules: &[u32], words: &mut [u32])
+pub(crate) fn write_table(
+    p: u32,
+    k: u32,
+    c: u32,
+    codes: &[u32],
+    schedules: &[u32],
+    words: &mut [u32],
+)
     requires { ⌜ Writable p k c (now codes) (now schedules) ⌝ }
     requires { ⌜ length (now words) ≡ 3 + 2 * length (now codes) + 2 * c ⌝ }
     ensures { λ _.

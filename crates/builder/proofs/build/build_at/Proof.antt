@@ -60,7 +60,8 @@ returns-6 c =
     let few = good .before .before in
     accepted-built _ _ _ _ _ (few .before .if1 .left) (few .if2 .left)
     (passes _ (good .before .first-outside .ensures) (good .if3 .left))
-    (passes _ (scheduled .before .first-outside2 .ensures) (scheduled .if4 .left)) _ _ (passes _ (new .before .first-repeated .ensures) (new .if5 .left)) (c .before .before .build-accepted .ensures)
+    (passes _ (scheduled .before .first-outside2 .ensures) (scheduled .if4 .left))
+    _ _ (passes _ (new .before .first-repeated .ensures) (new .if5 .left)) (c .before .before .build-accepted .ensures)
 
 pub build-at-spec : {M : Type 1} → statement M
 build-at-spec =
