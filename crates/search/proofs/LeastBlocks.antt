@@ -1,4 +1,4 @@
--- The search for k: what a counting answers, that some k keeps the bound, and that the least such k is the list's own.
+-- The search for k: what a counting under k tells, and that the search ends at the least k that keeps the bound.
 use Prim.Native.Nat.{ℕ, _+_, _<_}
 use native.Mathlib.Omega.{arith}
 use mathlib.Core.Bool.{false}

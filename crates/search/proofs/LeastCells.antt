@@ -1,4 +1,4 @@
--- The search for q: what placing a block by q tells, that some q separates the block, and that the least such q is the block's own.
+-- The search for q: the cells before a trial of q, what the trial tells, and that the search ends at the least q that separates the block.
 use Prim.Native.Nat.{ℕ, _+_, _*_, _<_, _≤_}
 use native.Mathlib.Nat.{mul-le-mul-left, mul-le-mul-right, mul-pos}
 use native.Mathlib.Omega.{arith}
