@@ -1,4 +1,4 @@
--- The search for q: what placing a block by q tells, that some q separates the block, and that the least such q is the block's own.
+-- The search for q: the cells before a trial of q, what the trial tells, and that the search ends at the least q that separates the block.
 use Prim.Native.Nat.{ℕ, _+_, _*_, _<_, _≤_}
 use native.Mathlib.Nat.{mul-le-mul-left, mul-le-mul-right, mul-pos}
 use native.Mathlib.Omega.{arith}
@@ -8,12 +8,12 @@ use mathlib.Core.Path.{_≡_, refl, sym, ap, _∙_}
 use borrow.Author.Tests.{eq-eqb, ne-eqb}
 use lib.ListN.{length, getD, set, replicate, length-replicate}
 use Rattle.hash.specs.Hash.{hashOf, load, together}
-use Rattle.hash.proofs.Theorems.{theorems}
 use Rattle.table.specs.TwoLevel.{tabulate, cellsMultiplier}
+use Rattle.table.proofs.Chosen.{cells-least}
 use Rattle.search.specs.Placed.{placed}
 use Rattle.search.specs.Searchable.{Searchable, mostCodes}
 use Rattle.search.specs.Cells.{square, separates, Unplaced, Placing, Tried, LeastCells}
-use Rattle.search.proofs.Tries.{Exists, Next, next-start, next-more, next-found}
+use Rattle.search.proofs.Tries.{Trying, trying-start, trying-more, trying-found}
 use Rattle.search.proofs.Places.{placing-all}
 
 -- the cells of a block that is not placed
@@ -47,6 +47,13 @@ module _ {p : ℕ} {block cells : List ℕ} (u : Unplaced p block cells) where
       ne-eqb (together p q (square block) block) 0 (λ none. shared (ap (λ (w : ℕ). together p q w block) unplaced-square ∙ none)) in
       record { answer = sym e; cells = rw e (zeros ∙ sym unplaced-zeros) }
 
+-- q is to be tried
+abbrev pub TryingCells : ℕ → List ℕ → ℕ → Type 0
+TryingCells p block q = Trying (separates p block) p (cellsMultiplier p block) q
+
+pub cells-start : {p : ℕ} {block : List ℕ} → Searchable p block → TryingCells p block 1
+cells-start {p} {block} codes = trying-start (cells-least (codes .prime) block (codes .valid))
+
 -- a block of one code: it is in the one cell, by any multiplier
 one-cell : (p q a : ℕ) → hashOf p q 1 a ≡ 0
 unfolding hashOf
@@ -60,25 +67,18 @@ cells-one [] u one = absurd (omega arith)
 cells-one (a ∷ b ∷ s) u one = absurd (omega arith)
 cells-one {p} (a ∷ []) {cells} u one =
     record {
-      multiplier = next-found {test = separates p (a ∷ [])} (next-start (u .codes .prime .two-le)) refl;
+      multiplier = trying-found (cells-start (u .codes)) refl;
       filled = ap (λ (s : List ℕ). set s 0 a) (u .zeros) ∙ rw (one-cell p 1 a);
     }
 
--- some multiplier separates a block
-separates-exists : {p : ℕ} {block : List ℕ} → Searchable p block → Exists (separates p block) p
-separates-exists {p} {block} codes =
-    let (q, lo, hi, none) = theorems .cells-exist (codes .prime) block (codes .valid) in
-    (q, lo, hi, eq-eqb (together p q (square block) block) 0 none)
-
 -- what a trial of q answers: the least q, with the cells filled, or that the next one is to be tried in the same cells
-module _ {p q : ℕ} {block old new : List ℕ} {r : Bool} (next : Next (separates p block) p q) (tried : Tried p q block old new r) where
+module _ {p q : ℕ} {block old new : List ℕ} {r : Bool} (h : TryingCells p block q) (tried : Tried p q block old new r) where
   pub cells-found : r ≡ true → LeastCells p block new q
-  unfolding cellsMultiplier
-  cells-found yes-r =
-      let e : separates p block q ≡ true = sym (tried .answer) ∙ yes-r in
-      record { multiplier = next-found next e; filled = tried .cells ∙ rw e }
+  cells-found passes =
+      let e : separates p block q ≡ true = sym (tried .answer) ∙ passes in
+      record { multiplier = trying-found h e; filled = tried .cells ∙ rw e }
 
-  pub cells-more : Searchable p block → r ≡ false → Next (separates p block) p (q + 1) × (new ≡ old)
-  cells-more codes no-r =
-      let e : separates p block q ≡ false = sym (tried .answer) ∙ no-r in
-      (next-more (separates-exists codes) next e, tried .cells ∙ rw e)
+  pub cells-more : r ≡ false → TryingCells p block (q + 1) × (new ≡ old)
+  cells-more fails =
+      let e : separates p block q ≡ false = sym (tried .answer) ∙ fails in
+      (trying-more h e, tried .cells ∙ rw e)

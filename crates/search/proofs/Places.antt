@@ -24,38 +24,32 @@ codes-drop s zero c = c
 codes-drop [] (suc i) c = c
 codes-drop (a ∷ s) (suc i) c = codes-drop s i (codes-tail c)
 
--- ---- what a cell holds
-
 module _ (p q w : ℕ) where
-  -- a cell that holds 0 is one where no code belongs
-  placed-load : {P : ℕ} (s : List ℕ) (t : ℕ) → Codes P s → placed p q w s t ≡ 0 → load p q w t s ≡ 0
+  -- a cell that holds 0 has no code
+  placed-zero : {P : ℕ} (s : List ℕ) (t : ℕ) → Codes P s → placed p q w s t ≡ 0 → load p q w t s ≡ 0
   unfolding load
-  placed-load [] t c zero-held = refl
-  placed-load (a ∷ s) t c zero-held =
+  placed-zero [] t c free = refl
+  placed-zero (a ∷ s) t c free =
       elim (ℕ-discrete (hashOf p q w a) t) [
         | yes e ↦ absurd (omega (arith, placed-here p q w a s t e, c .positive 0 (omega arith)))
         | no ne ↦
-            omega (
-              arith,
-              indicator-ne (hashOf p q w a) t ne,
-              placed-load s t (codes-tail c) (sym (placed-later p q w a s t ne) ∙ zero-held),
-            )
+            let rest : placed p q w s t ≡ 0 = sym (placed-later p q w a s t ne) ∙ free in
+            omega (arith, indicator-ne (hashOf p q w a) t ne, placed-zero s t (codes-tail c) rest)
       ]
 
-  -- ---- one code in and out of its cell
+  -- ---- one code, in and out of its cell
 
-  -- a code is stored where no other belongs, and taken out again
-  store : (a : ℕ) (s : List ℕ) (t : ℕ) → t ≡ hashOf p q w a → t < w
-      → set (tabulate (placed p q w s) w) t a ≡ tabulate (placed p q w (a ∷ s)) w
-  store a s t own l =
-      ap (λ (x : ℕ). set (tabulate (placed p q w s) w) t x) (sym (placed-here p q w a s t (sym own)))
-      ∙ tabulate-set (placed p q w s) (placed p q w (a ∷ s)) w t l (λ j h ne. placed-later p q w a s j (λ e. ne (sym e ∙ sym own)))
+  module _ (a : ℕ) (s : List ℕ) (t : ℕ) (own : t ≡ hashOf p q w a) (l : t < w) where
+    put-in : set (tabulate (placed p q w s) w) t a ≡ tabulate (placed p q w (a ∷ s)) w
+    put-in =
+        ap (set (tabulate (placed p q w s) w) t) (sym (placed-here p q w a s t (sym own)))
+        ∙ tabulate-set (placed p q w s) (placed p q w (a ∷ s)) w t l (λ j h ne. placed-later p q w a s j (λ e. ne (sym e ∙ sym own)))
 
-  take-out : (a : ℕ) (s : List ℕ) (t : ℕ) → t ≡ hashOf p q w a → t < w → load p q w t s ≡ 0
-      → set (tabulate (placed p q w (a ∷ s)) w) t 0 ≡ tabulate (placed p q w s) w
-  take-out a s t own l none =
-      ap (λ (x : ℕ). set (tabulate (placed p q w (a ∷ s)) w) t x) (sym (placed-none p q w s t none))
-      ∙ tabulate-set (placed p q w (a ∷ s)) (placed p q w s) w t l (λ j h ne. sym (placed-later p q w a s j (λ e. ne (sym e ∙ sym own))))
+    take-out : load p q w t s ≡ 0 → set (tabulate (placed p q w (a ∷ s)) w) t 0 ≡ tabulate (placed p q w s) w
+    take-out none =
+        ap (set (tabulate (placed p q w (a ∷ s)) w) t) (sym (placed-none p q w s t none))
+        ∙ tabulate-set (placed p q w (a ∷ s)) (placed p q w s) w t l
+        (λ j h ne. sym (placed-later p q w a s j (λ e. ne (sym e ∙ sym own))))
 
 -- ---- the loop that places
 
@@ -83,11 +77,11 @@ module _ {p q w : ℕ} {block cells : List ℕ} {i : ℕ} (h : Placing p q w blo
           sized = length-set cells t (getD block (i - 1) 0) ∙ h .sized;
           apart =
               rw (drop-before block i pos (h .left), ← own)
-              (omega (arith, placed-load p q w (drop i block) t (codes-drop block i valid) (sym at-cell ∙ free), h .apart));
+              (omega (arith, placed-zero p q w (drop i block) t (codes-drop block i valid) (sym at-cell ∙ free), h .apart));
           held =
               rw (drop-before block i pos (h .left))
               (ap (λ (s : List ℕ). set s t (getD block (i - 1) 0)) (h .held)
-              ∙ store p q w (getD block (i - 1) 0) (drop i block) t own l);
+              ∙ put-in p q w (getD block (i - 1) 0) (drop i block) t own l);
         }
 
     -- a cell that is taken: two codes are together

@@ -1,40 +1,32 @@
--- A search that tries the multipliers 1, 2, 3, .. by a test. Those before k failed; since some multiplier below p passes, a k that fails
--- has one after it, and the first that passes is the least. So the search needs no end of its own.
-use Prim.Native.Nat.{ℕ, _+_, _<_, _≤_}
-use native.Mathlib.Decide.{ℕ-discrete, decLt}
+-- A search that tries the multipliers 1, 2, 3, .. by a test. The least one that passes, r, is below p. While k is at most r none before it
+-- passes: so a k that passes is r, and a k that fails has one after it. The search needs no end of its own.
+use Prim.Native.Nat.{ℕ, _+_, _≤_}
+use native.Mathlib.Decide.{ℕ-discrete}
 use native.Mathlib.Omega.{arith}
 use mathlib.Core.Bool.{Bool, true, false, true≢false}
 use mathlib.Core.Path.{_≡_, sym, ap, _∙_}
-use Rattle.hash.specs.Hash.{least}
-use Rattle.hash.proofs.LeastLaws.{least-unique}
+use Rattle.hash.specs.Theorems.{Least}
 
--- some multiplier passes
-abbrev pub Exists : (ℕ → Bool) → ℕ → Type 0
-Exists test p = (s : ℕ) × (1 ≤ s) × (s < p) × (test s ≡ true)
-
--- k is to be tried: none before it passes
-pub record Next (test : ℕ → Bool) (p k : ℕ) : Type 0 where
+-- k is to be tried: it is not past the least one that passes
+pub record Trying (test : ℕ → Bool) (p r k : ℕ) : Type 0 where
+  pub least : Least test p r
   pub from-one : 1 ≤ k
-  pub below : k < p
-  pub before : (j : ℕ) → 1 ≤ j → j < k → test j ≡ false
+  pub upto : k ≤ r
 
-module _ {test : ℕ → Bool} {p : ℕ} where
-  pub next-start : 1 < p → Next test p 1
-  next-start two = record { from-one = omega arith; below = two; before = λ j lo hi. absurd (omega arith) }
+module _ {test : ℕ → Bool} {p r : ℕ} where
+  pub trying-start : Least test p r → Trying test p r 1
+  trying-start l = record { least = l; from-one = omega arith; upto = l .from-one }
 
-  pub next-more : {k : ℕ} → Exists test p → Next test p k → test k ≡ false → Next test p (k + 1)
-  next-more {k} some n fails = record { from-one = omega arith; below = later; before = upto }
-    where
-      upto : (j : ℕ) → 1 ≤ j → j < k + 1 → test j ≡ false
-      upto j lo hi = elim (ℕ-discrete j k) [ yes e ↦ ap test e ∙ fails | no ne ↦ n .before j lo (omega arith) ]
+  pub trying-more : {k : ℕ} → Trying test p r k → test k ≡ false → Trying test p r (k + 1)
+  trying-more {k} h fails =
+      elim (ℕ-discrete k r) [
+        | yes e ↦ absurd (true≢false (sym (h .least .passes) ∙ ap test (sym e) ∙ fails))
+        | no ne ↦ record { least = h .least; from-one = omega arith; upto = omega (arith, h .upto) }
+      ]
 
-      later : k + 1 < p
-      later =
-          elim (decLt k (some .0)) [
-            | yes l ↦ omega (arith, some .2)
-            | no ge ↦ absurd (true≢false (sym (some .3) ∙ upto (some .0) (some .1) (omega arith)))
-          ]
-
-  pub next-found : {k : ℕ} → Next test p k → test k ≡ true → k ≡ least test p
-  next-found {k} n passes =
-      sym (least-unique test p k (record { from-one = n .from-one; below = n .below; passes = passes; least = n .before }))
+  pub trying-found : {k : ℕ} → Trying test p r k → test k ≡ true → k ≡ r
+  trying-found {k} h passes =
+      elim (ℕ-discrete k r) [
+        | yes e ↦ e
+        | no ne ↦ absurd (true≢false (sym passes ∙ h .least .least k (h .from-one) (omega (arith, h .upto))))
+      ]

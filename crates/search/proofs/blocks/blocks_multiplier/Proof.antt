@@ -7,14 +7,12 @@ use borrow.Author.Needs.{needs}
 use lib.ListN.{length, take}
 use lib.Seq.{length-take-le, length-front}
 use Rattle.search.specs.Searchable.{mostCodes}
-use Rattle.search.specs.Blocks.{keeps}
-use Rattle.search.proofs.Tries.{Next, next-start}
-use Rattle.search.proofs.LeastBlocks.{blocks-none, blocks-found, blocks-more}
+use Rattle.search.proofs.LeastBlocks.{TryingBlocks, blocks-none, blocks-start, blocks-found, blocks-more}
 use Rattle.search.proofs.blocks.blocks_multiplier.Statement.{statement}
 use Rattle.search.proofs.blocks.blocks_multiplier.Tie as tie
 
 abbrev Inv-loop : tie.InvT-loop
-Inv-loop p codes n counts₀ k₀ counts k = Next (keeps p codes) p k × (length counts ≡ mostCodes)
+Inv-loop p codes n counts₀ k₀ counts k = TryingBlocks p codes k × (length counts ≡ mostCodes)
 
 abbrev μ-loop : tie.MeasureT-loop
 μ-loop p codes n counts₀ k₀ counts k = p - k
@@ -23,7 +21,7 @@ returns : tie.Need-returns Inv-loop μ-loop
 returns c = let start = c .before .before in blocks-none (start .args .p) (start .args .codes .now) (c .if1 .taken)
 
 loop-holds : tie.Need-loop-holds Inv-loop μ-loop
-loop-holds c = (next-start (c .before .before .pre .prime .two-le), refl)
+loop-holds c = (blocks-start (c .before .before .pre) (omega arith), refl)
 
 -- a count for each of n blocks is lent
 lent :
@@ -40,16 +38,17 @@ count-cells-requires c κs =
 returns-2 : tie.Need-returns-2 Inv-loop μ-loop
 returns-2 c =
     let called = c .before .before .before .before in
-    blocks-found (called .before .before .before .loop .inv .0) (omega arith) (called .count-cells .ensures) (c .before .count .given .1)
+    let h = called .before .before .before in
+    blocks-found (h .before .before .before .args .codes .now) (h .loop .inv .0) (called .count-cells .ensures)
+    (c .before .count .given .1)
 
 loop-again : tie.Need-loop-again Inv-loop μ-loop
 loop-again c =
     let called = c .before .before .before in
     let h = called .before .before .before in
-    let start = h .before .before .before in (
-      blocks-more (h .loop .inv .0) (omega arith) (called .count-cells .ensures) (start .pre) (c .enum-told .given .1),
-      length-front (h .loop .counts) (called .count-cells .last .1 .1 .1 .0) (length (start .args .codes .now))
-          (called .count-cells .kept .1 .1 .1 .0)
+    let codes = h .before .before .before .args .codes .now in (
+      blocks-more codes (h .loop .inv .0) (called .count-cells .ensures) (c .enum-told .given .1),
+      length-front (h .loop .counts) (called .count-cells .last .1 .1 .1 .0) (length codes) (called .count-cells .kept .1 .1 .1 .0)
           ∙ h .loop .inv .1,
     )
 

@@ -5,14 +5,12 @@ use mathlib.Core.Path.{_≡_, refl, ap, _∙_}
 use native.Mathlib.Omega.{arith}
 use borrow.Author.Needs.{needs}
 use lib.ListN.{length}
-use Rattle.search.specs.Cells.{separates}
-use Rattle.search.proofs.Tries.{Next, next-start}
-use Rattle.search.proofs.LeastCells.{unplaced-some, cells-one, cells-found, cells-more}
+use Rattle.search.proofs.LeastCells.{TryingCells, unplaced-some, cells-start, cells-one, cells-found, cells-more}
 use Rattle.search.proofs.cells.cells_multiplier.Statement.{statement}
 use Rattle.search.proofs.cells.cells_multiplier.Tie as tie
 
 abbrev Inv-loop : tie.InvT-loop
-Inv-loop p block cells₀ q₀ cells q = Next (separates p block) p q × (cells ≡ cells₀)
+Inv-loop p block cells₀ q₀ cells q = TryingCells p block q × (cells ≡ cells₀)
 
 abbrev μ-loop : tie.MeasureT-loop
 μ-loop p block cells₀ q₀ cells q = p - q
@@ -27,7 +25,7 @@ returns c =
     cells-one (start .args .block .now) (start .pre) (found .if1 .taken)
 
 loop-holds : tie.Need-loop-holds Inv-loop μ-loop
-loop-holds c = (next-start (c .before .before .before .pre .codes .prime .two-le), refl)
+loop-holds c = (cells-start (c .before .before .before .pre .codes), refl)
 
 place-block-requires : tie.Need-place-block-requires Inv-loop μ-loop
 place-block-requires c κs =
@@ -49,8 +47,7 @@ loop-again : tie.Need-loop-again Inv-loop μ-loop
 loop-again c =
     let called = c .before .before .before in
     let h = called .before .before .before in
-    let (next, kept) =
-    cells-more (h .loop .inv .0) (called .place-block .ensures) (h .before .before .before .before .pre .codes) (c .if2 .left) in
+    let (next, kept) = cells-more (h .loop .inv .0) (called .place-block .ensures) (c .if2 .left) in
     (next, kept ∙ h .loop .inv .1)
 
 pub cells-multiplier-spec : {M : Type 1} → statement M
