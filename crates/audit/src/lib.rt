@@ -1,1 +1,3 @@
 // Check, and reading an accepted table back.
+pub mod blocks;
+pub mod check;

@@ -4,3 +4,4 @@ pub mod Words
 pub mod TwoLevel
 pub mod Lookup
 pub mod Panel
+pub mod Sized

@@ -1,0 +1,3 @@
+-- In reading order: the codes of a run of cells, the blocks that follow one another.
+pub mod Counting
+pub mod Partition
