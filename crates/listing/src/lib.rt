@@ -1,1 +1,3 @@
 // The text of a table file.
+pub mod lines;
+pub mod text;
