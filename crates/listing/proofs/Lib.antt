@@ -1,4 +1,5 @@
--- Pieces of memory written one after the other; decimal digits; the lines.
+-- Pieces of memory written one after the other; decimal digits; the lines; the words of bytes.
 pub mod Added
 pub mod Decimal
 pub mod LineLaws
+pub mod WordLaws
