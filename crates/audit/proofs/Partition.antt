@@ -15,13 +15,17 @@ use lib.Dec.{eqb}
 use lib.ListN.{length, getD, take, drop, length-drop}
 use lib.Seq.{getD-take, getD-drop, length-take-le}
 use Rattle.hash.specs.Hash.{hashOf}
-use Rattle.table.specs.Words.{codeCount, cellCount, multiplier, blockStart, blockEnd, blockMultiplier, cellCode, blockOf, cellIn, ownCell}
+use Rattle.table.specs.Words.{codeCount, cellCount, multiplier, total, blockStart, blockEnd, blockMultiplier, cellCode, blockOf, cellIn, ownCell}
 use Rattle.audit.specs.Check.{misplaced, blockCodes}
 use Rattle.audit.specs.Blocks.{Starts, strange, strangeAt}
 
 hash-lt : (p k w a : ℕ) → 0 < w → hashOf p k w a < w
 unfolding hashOf
 hash-lt p k w a l = mod-lt ((k * a) % p) l
+
+pub block-lt : (p : ℕ) (words : List ℕ) (a : ℕ) → 0 < codeCount words → blockOf p words a < codeCount words
+unfolding blockOf
+block-lt p words a l = hash-lt p (multiplier words) (codeCount words) a l
 
 -- where block j starts, and c after the last: `blockEnd words j` is `edge words (j + 1)`
 abbrev pub edge : List ℕ → ℕ → ℕ
@@ -76,7 +80,7 @@ module _ (words : List ℕ) (s : Starts words) where
   end-within j l = edge-within (j + 1) (omega arith)
 
   -- a place in a block that has cells is one of them
-  cell-lt : (p b a : ℕ) → b < codeCount words → (blockStart words b ≡ blockEnd words b → ⊥) → cellIn p words b a < blockEnd words b
+  pub cell-lt : (p b a : ℕ) → b < codeCount words → (blockStart words b ≡ blockEnd words b → ⊥) → cellIn p words b a < blockEnd words b
   unfolding cellIn
   cell-lt p b a l has =
       omega
@@ -124,10 +128,10 @@ module _ (p : ℕ) (words : List ℕ) (s : Starts words) (j t a : ℕ) (lj : j <
       || not (eqb (ownCell p words a) (blockStart words j + t))))
   unfolding strange blockOf ownCell
   strange-is = ap (λ (x : Bool). not (eqb a 0) && x)
-      (own-place (blockOf p words a) (hash-lt p (multiplier words) (codeCount words) a (omega arith)))
+      (own-place (blockOf p words a) (block-lt p words a (omega arith)))
 
 -- the part of the words that is handed on for block j
-module _ (words : List ℕ) (s : Starts words) (whole : 3 + 2 * codeCount words + cellCount words ≤ length words) (j : ℕ) (lj : j < codeCount words) where
+module _ (words : List ℕ) (s : Starts words) (whole : total words ≤ length words) (j : ℕ) (lj : j < codeCount words) where
   pub part-length : length (blockCodes words j) ≡ blockEnd words j - blockStart words j
   part-length =
       length-take-le (blockEnd words j - blockStart words j) (drop (3 + 2 * codeCount words + blockStart words j) words)

@@ -2,14 +2,14 @@
 -- Assumes nothing.
 use Prim.Native.Nat.{ℕ, zero, suc, _+_, _<_, _≤_}
 use mathlib.Core.Bool.{Bool, true, false, cond, true≢false}
-use mathlib.Core.Logic.{⊎-elim}
+use mathlib.Core.Logic.{_↔_, ⊎-elim}
 use mathlib.Core.Path.{_≡_, sym, _∙_}
 use native.Mathlib.Decide.{decLt}
 use native.Mathlib.Nat.{le-antisymm}
 use native.Mathlib.Numerals.{add-one}
 use native.Mathlib.Omega.{arith}
 use borrow.Author.Count.{below-more}
-use borrow.Author.Tests.{lt-ltb, le-ltb}
+use borrow.Author.Tests.{lt-ltb, le-ltb, ltb-false}
 use lib.Dec.{ltb}
 use Rattle.table.specs.Answers.{firstOf}
 use Rattle.table.proofs.Laws.{true-or-false}
@@ -81,6 +81,11 @@ first-end n test i le ge below = first-only (record { within = le; below = below
 
 pub first-none : (n : ℕ) (test : ℕ → Bool) → Below test n → firstOf n test ≡ n
 first-none n test below = first-end n test n (omega arith) (omega arith) below
+
+-- `refuseFirst` refuses nothing exactly where the test fails below n
+pub none-refused : (n : ℕ) (test : ℕ → Bool) → (ltb (firstOf n test) n ≡ false) ↔ Below test n
+none-refused n test =
+    (λ e j l. first-is n test .below j (omega (arith, ltb-false (firstOf n test) n e)), λ below. rw (first-none n test below) (le-ltb n n (omega arith)))
 
 -- tests that agree below n have the same first
 pub first-ext : (n : ℕ) (f g : ℕ → Bool) → ((i : ℕ) → i < n → f i ≡ g i) → firstOf n f ≡ firstOf n g

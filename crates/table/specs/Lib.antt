@@ -5,3 +5,4 @@ pub mod TwoLevel
 pub mod Lookup
 pub mod Panel
 pub mod Sized
+pub mod Found

@@ -22,6 +22,11 @@ pub record Block (words : List ℕ) (j : ℕ) : Type 0 where
   pub whole : total words ≤ length words
   pub below : j < codeCount words
 
+-- i is a cell of a table that is whole
+pub record Cell (words : List ℕ) (i : ℕ) : Type 0 where
+  pub whole : total words ≤ length words
+  pub below : i < cellCount words
+
 -- r is the number x, which is below the bound
 pub record Within (x bound r : ℕ) : Type 0 where
   pub value : r ≡ x

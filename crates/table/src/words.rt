@@ -3,9 +3,9 @@ ghost use Prim.Native.Nat.{_+_, _*_, _-_, _<_, _≤_};
 ghost use mathlib.Core.Path.{_≡_};
 ghost use lib.ListN.{length, getD};
 ghost use Rattle.table.specs.Answers.{outside};
-ghost use Rattle.table.specs.Words.{codeCount, cellCount, total, blockStart, blockEnd, blockOf, cellIn};
+ghost use Rattle.table.specs.Words.{codeCount, total, blockStart, blockEnd, blockMultiplier, cellCode, cellSchedule, blockOf, cellIn};
 ghost use Rattle.table.specs.Lookup.{tooManyCodes, tooManyCells, badMultiplier, tooShort, badSizes};
-ghost use Rattle.table.specs.Sized.{Block, Within};
+ghost use Rattle.table.specs.Sized.{Block, Cell, Within};
 
 // A word as an index or a part of a sum.
 pub fn wide(x: u32) -> usize
@@ -83,6 +83,14 @@ pub fn bad_sizes(p: u32, limit: u32, words: &[u32]) -> bool
     too_short(words)
 }
 
+// Where block j starts, counted in cells.
+pub fn block_start(words: &[u32], j: usize) -> u32
+    requires { ⌜ Block (now words) j ⌝ }
+    ensures { λ r. ⌜ r ≡ blockStart (now (words .entry)) j ⌝ }
+{
+    words[3 + j]
+}
+
 // Where block j ends: where the next one starts, the last at c.
 pub fn block_end(words: &[u32], j: usize) -> u32
     requires { ⌜ Block (now words) j ⌝ }
@@ -92,6 +100,30 @@ pub fn block_end(words: &[u32], j: usize) -> u32
         return words[1];
     }
     words[3 + (j + 1)]
+}
+
+// The multiplier q of block j.
+pub fn block_multiplier(words: &[u32], j: usize) -> u32
+    requires { ⌜ Block (now words) j ⌝ }
+    ensures { λ r. ⌜ r ≡ blockMultiplier (now (words .entry)) j ⌝ }
+{
+    words[3 + wide(words[0]) + j]
+}
+
+// The code in cell i, 0 where it is empty.
+pub fn cell_code(words: &[u32], i: usize) -> u32
+    requires { ⌜ Cell (now words) i ⌝ }
+    ensures { λ r. ⌜ r ≡ cellCode (now (words .entry)) i ⌝ }
+{
+    words[3 + 2 * wide(words[0]) + i]
+}
+
+// The schedule in cell i, 0 where it is empty.
+pub fn cell_schedule(words: &[u32], i: usize) -> u32
+    requires { ⌜ Cell (now words) i ⌝ }
+    ensures { λ r. ⌜ r ≡ cellSchedule (now (words .entry)) i ⌝ }
+{
+    words[3 + 2 * wide(words[0]) + wide(words[1]) + i]
 }
 
 // The block that a code belongs to.
@@ -107,8 +139,7 @@ pub fn cell_in(p: u32, words: &[u32], j: usize, code: u32) -> usize
     requires { ⌜ (1 ≤ p) × (Block (now words) j × (blockStart (now words) j < blockEnd (now words) j)) ⌝ }
     ensures { λ r. ⌜ Within (cellIn p (now (words .entry)) j code) (blockEnd (now (words .entry)) j) r ⌝ }
 {
-    let q = words[3 + wide(words[0]) + j];
-    let start = words[3 + j];
+    let start = block_start(words, j);
     let cells = block_end(words, j) - start;
-    wide(start) + wide(hash::hash(p, q, cells, code))
+    wide(start) + wide(hash::hash(p, block_multiplier(words, j), cells, code))
 }

@@ -1,0 +1,2 @@
+-- In reading order: the words that settle a lookup.
+pub mod Settle
