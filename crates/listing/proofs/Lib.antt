@@ -3,3 +3,4 @@ pub mod Added
 pub mod Decimal
 pub mod LineLaws
 pub mod WordLaws
+pub mod Printed

@@ -4,3 +4,4 @@ pub mod Listing
 pub mod Bytes
 pub mod Lines
 pub mod Added
+pub mod Printed
