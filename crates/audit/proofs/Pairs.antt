@@ -3,6 +3,7 @@
 -- Assumes nothing.
 use Prim.Native.Nat.{ℕ, _+_, _*_, _<_, _≤_}
 use native.Mathlib.Decide.{decLt}
+use native.Mathlib.Nat.{pos-of-ne-zero}
 use native.Mathlib.Omega.{arith}
 use mathlib.Core.List.{List, [], _∷_, List·Memᴰ}
 use mathlib.Core.Logic.{_⊎_, inl, inr, ⊎-elim}
@@ -132,6 +133,12 @@ module _ {p limit : ℕ} {words : List ℕ} (f : WellFormed p limit words) where
         schedule-there = schedule-at words (f .whole) i l ∙ schedule;
         held = held;
       }))
+
+  pub pair-schedule : {r : Pair} → List·Memᴰ r (pairsIn words) → (1 ≤ r .schedule) × (r .schedule ≤ 999)
+  pair-schedule m =
+      let (i, l, code, schedule, held) = cell-of-pair m in
+      let from : 1 ≤ cellSchedule words i = pos-of-ne-zero (λ none. omega (arith, f .both-or-none i l .1 none)) in
+      (omega arith, omega (arith, f .schedule-in-range i l))
 
   -- those that a lookup finds
   pub pairs-found : {r : Pair} → List·Memᴰ r (pairsIn words) → lookupOf p limit words (r .code) ≡ given (r .schedule ∷ [])

@@ -2,19 +2,19 @@
 -- Where k puts them together, the remainders of k * x and k * y by p differ by a multiple j * w, j from 1 to (p - 1) / w,
 -- one way or the other. Of each of these differences there is at most one k, by Euclid's lemma. The count is a sum over
 -- k and j, exchanged.
-use Prim.Native.Nat.{ℕ, zero, suc, _+_, _*_, _-_, _/_, _%_, _<_, _≤_}
+use Prim.Native.Nat.{ℕ, suc, _+_, _*_, _-_, _/_, _%_, _<_, _≤_}
 use native.Mathlib.Nat.{mod-lt, div-add-mod', le-div-iff-mul-le, lt-of-mul-lt-mul-right, le-dest}
 use native.Mathlib.Decide.{ℕ-discrete, decLe}
 use native.Mathlib.Omega.{arith}
-use mathlib.Core.Bool.{Bool, true, false}
-use mathlib.Core.Logic.{_⊎_, inl, inr}
-use mathlib.Core.Path.{_≡_, refl, sym, ap, _∙_}
+use mathlib.Core.Bool.{Bool, true}
+use mathlib.Core.Logic.{inl, inr}
+use mathlib.Core.Path.{_≡_, sym, ap}
 use lib.Dec.{eqb}
-use borrow.Author.Tests.{eqb-true, eq-eqb}
+use borrow.Author.Tests.{eqb-true}
 use Rattle.hash.specs.Hash.{hashOf, sum}
 use Rattle.hash.specs.Theorems.{Prime, collides}
 use Rattle.hash.proofs.Primes.{mod-same, times-inj}
-use Rattle.hash.proofs.Indicators.{indicator, true-or-false, indicator-true, indicator-false, indicator-le, indicator-eq}
+use Rattle.hash.proofs.Indicators.{indicator, true-or-false, indicator-false, indicator-le, indicator-eq}
 use Rattle.hash.proofs.Sums.{sum-mono, sum-add, sum-swap, sum-at-most, sum-member, sum-once}
 
 -- two numbers with the same remainder by w, of which u is the larger and below p, differ by j * w, j from 1 to (p - 1) / w

@@ -5,13 +5,11 @@ use native.Mathlib.Nat.{mod-lt}
 use native.Mathlib.Omega.{arith}
 use mathlib.Core.Bool.{Bool, true, false, cond}
 use mathlib.Core.List.{List, [], _∷_, _++_}
-use mathlib.Core.Logic.{_⊎_, inl, inr}
-use mathlib.Core.Path.{_≡_, refl, sym, ap, _∙_}
+use mathlib.Core.Path.{_≡_, refl, sym}
 use lib.Dec.{eqb}
 use lib.ListN.{length, getD}
-use borrow.Author.Tests.{eqb-true, eqb-false}
 use Rattle.hash.specs.Hash.{hashOf, load, members, together, sum, cells}
-use Rattle.hash.proofs.Indicators.{indicator, true-or-false, indicator-le, indicator-eq, indicator-ne, indicator-square}
+use Rattle.hash.proofs.Indicators.{indicator, indicator-le, indicator-eq, indicator-ne, indicator-square}
 use Rattle.hash.proofs.Sums.{sum-ext, sum-add, sum-const, sum-pick, sum-one}
 
 -- a code hashes to one of the places

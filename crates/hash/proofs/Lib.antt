@@ -1,5 +1,5 @@
 -- In reading order: numbers, sums, and what they give of the hash.
-pub mod Product
+pub mod Words
 pub mod Primes
 pub mod Indicators
 pub mod Sums

@@ -1,11 +1,10 @@
 -- Source 000, lemmas 1 to 3, for a list of n codes. Summed over all multipliers, the pairs put together in w places are at
 -- most n * (n - 1) * ((p - 1) / w). So with w = n some multiplier puts at most n - 1 pairs together, and with w = n * n none.
 use Prim.Native.Nat.{ℕ, zero, suc, _+_, _*_, _-_, _/_, _<_, _≤_}
-use native.Mathlib.Nat.{div-mul-le-self, mul-le-mul-left, mul-pos}
-use native.Mathlib.Decide.{ℕ-discrete}
+use native.Mathlib.Nat.{div-mul-le-self, mul-le-mul-left}
 use native.Mathlib.Omega.{arith}
 use mathlib.Core.List.{List, [], _∷_, List·Memᴰ, List·Memᴰ·head, List·Memᴰ·tail}
-use mathlib.Core.Path.{_≡_, refl, sym, ap, _∙_}
+use mathlib.Core.Path.{_≡_, refl, sym}
 use lib.ListN.{length}
 use Rattle.hash.specs.Hash.{hashOf, load, together, sum, cells, Codes}
 use Rattle.hash.specs.Theorems.{Prime, collides}

@@ -1,20 +1,19 @@
 -- The order of a list makes no difference to its loads, its pairs put together, its cells, and the codes of a place.
 -- Two lists without repetition that have the same members are orders of one another: each code of the first is pulled to the
 -- front of the second, and by the lengths nothing is left over.
-use Prim.Native.Nat.{ℕ, zero, suc, _+_, _*_, _<_, _≤_}
-use native.Mathlib.Decide.{ℕ-discrete}
+use Prim.Native.Nat.{ℕ, suc, _+_, _*_, _<_, _≤_}
 use native.Mathlib.Omega.{arith}
 use mathlib.Core.Bool.{Bool, true, false, cond}
-use mathlib.Core.List.{List, [], _∷_, _++_, append-nil, List·Memᴰ, List·Memᴰ·head, List·Memᴰ·tail, List·Memᴰ·cases-cons, List·Memᴰ·not-nil, Memᴰ·cast}
-use mathlib.Core.List.{List·Permᴰ, List·Permᴰ·nil, List·Permᴰ·cons, List·Permᴰ·swap, List·Permᴰ·trans, Permᴰ·refl, Permᴰ·symm, Permᴰ·append-nil}
-use mathlib.Core.Logic.{_⊎_, inl, inr}
+use mathlib.Core.List.{List, [], _∷_, _++_, append-nil, List·Memᴰ, List·Memᴰ·head, List·Memᴰ·tail, List·Memᴰ·cases-cons}
+use mathlib.Core.List.{List·Permᴰ, List·Permᴰ·nil, List·Permᴰ·cons, List·Permᴰ·swap, List·Permᴰ·trans, Permᴰ·refl, Permᴰ·symm}
+use mathlib.Core.Logic.{inl, inr}
 use mathlib.Core.Path.{_≡_, refl, sym, ap, ap₂, _∙_}
 use lib.Dec.{eqb}
 use lib.ListN.{length, getD, length-append}
 use Rattle.hash.specs.Hash.{hashOf, load, members, together, sum, cells}
 use Rattle.hash.proofs.Indicators.{indicator, indicator-sym}
 use Rattle.hash.proofs.Sums.{sum-ext}
-use Rattle.hash.proofs.Members.{at-mem, members-in, members-out}
+use Rattle.hash.proofs.Members.{at-mem}
 
 -- ---- what an order keeps
 
@@ -82,7 +81,7 @@ perm-cells p k {s} {r} q =
     (λ t l. ap (λ (m : ℕ). m * m) (perm-load p k (length s) t q))
     ∙ ap (λ (n : ℕ). sum (λ t. load p k n t r * load p k n t r) n) (perm-length q)
 
--- ---- same members, same order up to a permutation
+-- ---- the same members make a permutation
 
 -- no code twice
 abbrev pub Distinct : List ℕ → Type 0

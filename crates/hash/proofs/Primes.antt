@@ -1,13 +1,13 @@
 -- Primes. Divisibility is a remainder of 0 throughout, so that tests and laws speak of one thing.
 -- Euclid's lemma goes down from a to p % a; a prime is proved by trying the divisors up to its square root.
 use Prim.Native.Nat.{ℕ, zero, suc, _+_, _*_, _-_, _/_, _%_, _<_, _≤_}
-use native.Mathlib.Nat.{lt-of-mul-lt-mul-right, mod-lt, div-add-mod', mul-mod-left, mul-mod-right, add-mul-mod-self-right, zero-mod, mod-eq-of-lt, mul-le-mul, mul-le-mul-left, mul-sub, sub-le, le-refl, lt-of-le-of-lt}
+use native.Mathlib.Nat.{lt-of-mul-lt-mul-right, mod-lt, div-add-mod', mul-mod-right, add-mul-mod-self-right, zero-mod, mod-eq-of-lt, mul-le-mul, mul-le-mul-left, mul-sub, sub-le, le-refl, lt-of-le-of-lt}
 use native.Mathlib.Decide.{ℕ-discrete, decLe}
 use native.Mathlib.Omega.{arith}
 use mathlib.Core.Bool.{Bool, true, false, false≢true}
 use mathlib.Core.Path.{_≡_, refl, sym, ap, _∙_}
 use lib.Dec.{eqb, lit<, lit≤}
-use borrow.Author.Tests.{eqb-true, eqb-false}
+use borrow.Author.Tests.{eqb-false}
 use Rattle.hash.specs.Theorems.{Prime}
 
 -- multiples of p may be added on both sides

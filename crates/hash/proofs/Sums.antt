@@ -1,11 +1,11 @@
 -- Finite sums f 0 + .. + f (n - 1): exchanged, bounded, and read back from their mean.
 use Prim.Native.Nat.{ℕ, zero, suc, _+_, _*_, _<_, _≤_}
-use native.Mathlib.Nat.{le-refl, add-le-add, le-trans}
+use native.Mathlib.Nat.{add-le-add}
 use native.Mathlib.Decide.{ℕ-discrete, decLe}
 use native.Mathlib.Omega.{arith}
-use mathlib.Core.Bool.{Bool, true, false}
-use mathlib.Core.Logic.{_⊎_, inl, inr}
-use mathlib.Core.Path.{_≡_, refl, sym, ap, ap₂, _∙_}
+use mathlib.Core.Bool.{Bool, true}
+use mathlib.Core.Logic.{inl, inr}
+use mathlib.Core.Path.{_≡_, refl, ap, ap₂, _∙_}
 use lib.Dec.{eqb}
 use Rattle.hash.specs.Hash.{sum}
 use Rattle.hash.proofs.Indicators.{indicator, true-or-false, indicator-false, indicator-le, indicator-eq, indicator-ne}

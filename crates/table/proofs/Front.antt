@@ -6,10 +6,8 @@ use native.Mathlib.Decide.{ℕ-discrete}
 use native.Mathlib.Nat.{add-assoc, mul-pos}
 use native.Mathlib.Numerals.{add-one}
 use native.Mathlib.Omega.{arith}
-use mathlib.Core.Bool.{cond}
 use mathlib.Core.List.{List, [], _∷_, _++_, append-assoc, append-nil}
 use mathlib.Core.Path.{_≡_, refl, sym, ap, ap₂, _∙_}
-use lib.Dec.{eqb}
 use lib.ListN.{length, getD, length-append}
 use lib.Seq.{getD-append-add}
 use borrow.Author.Tests.{eq-eqb, ne-eqb}
@@ -35,6 +33,10 @@ ownOf p k codes a =
     startOf p k codes j + hashOf p (blockQ p k codes j) (sizeOf p k codes j) a
 
 module _ (p k : ℕ) (codes : List ℕ) where
+  pub start-first : startOf p k codes 0 ≡ 0
+  unfolding startOf sum
+  start-first = refl
+
   pub start-next : (j : ℕ) → startOf p k codes (suc j) ≡ startOf p k codes j + sizeOf p k codes j
   unfolding startOf sum
   start-next j = refl

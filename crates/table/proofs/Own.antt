@@ -1,7 +1,7 @@
 -- Own cells of listed codes: each is one of the c cells, and different codes have different ones. Codes of different blocks lie
 -- in different runs of cells; those of one block are put apart by its q.
 -- Assumes nothing.
-use Prim.Native.Nat.{ℕ, zero, suc, _+_, _*_, _<_, _≤_}
+use Prim.Native.Nat.{ℕ, suc, _+_, _<_}
 use native.Mathlib.Decide.{ℕ-discrete, decLt}
 use native.Mathlib.Omega.{arith}
 use mathlib.Core.List.{List, List·Memᴰ}
@@ -51,6 +51,12 @@ module _ (p k : ℕ) (codes : List ℕ) where
       )
 
 module _ {p : ℕ} (prime : Prime p) (k : ℕ) (codes : List ℕ) (valid : Codes p codes) where
+  -- q puts the codes of a block in different cells
+  pub block-apart : (j : ℕ) → together p (blockQ p k codes j) (sizeOf p k codes j) (members p k (length codes) j codes) ≡ 0
+  block-apart j =
+      rw (load-members p k (length codes) j codes)
+      at (cells-apart prime (members p k (length codes) j codes) (members-codes p k (length codes) j codes valid))
+
   -- two codes of one block with one place in it are one
   same-place :
       (j a b : ℕ) → List·Memᴰ a (members p k (length codes) j codes) → List·Memᴰ b (members p k (length codes) j codes)
@@ -61,10 +67,8 @@ module _ {p : ℕ} (prime : Prime p) (k : ℕ) (codes : List ℕ) (valid : Codes
       let (y, hy, ey) = at-mem mb in
       let q = blockQ p k codes j in
       let w = sizeOf p k codes j in
-      let none : together p q w block ≡ 0 =
-      rw (load-members p k (length codes) j codes) at (cells-apart prime block (members-codes p k (length codes) j codes valid)) in
       let index : x ≡ y =
-      same-index (λ i. hashOf p q w (getD block i 0)) (length block) (together-apart p q w block none) x y hx hy
+      same-index (λ i. hashOf p q w (getD block i 0)) (length block) (together-apart p q w block (block-apart j)) x y hx hy
       (ap (hashOf p q w) ex ∙ e ∙ ap (hashOf p q w) (sym ey)) in
       sym ex ∙ ap (λ (i : ℕ). getD block i 0) index ∙ ey
 
