@@ -9,7 +9,7 @@ pub mod Passing
 pub mod WellFormed
 pub mod Lookups
 pub mod Rising
-pub mod Pairs
+pub mod PairLaws
 pub mod Merging
 pub mod Runs
 pub mod Keys
