@@ -3,4 +3,5 @@ pub mod Added
 pub mod Decimal
 pub mod LineLaws
 pub mod WordLaws
+pub mod FileLaws
 pub mod Printed

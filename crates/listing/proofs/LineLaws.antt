@@ -2,7 +2,7 @@
 -- Assumes nothing.
 use Prim.Native.Nat.{ℕ, _+_, _*_, _<_, _≤_}
 use mathlib.Core.List.{List, [], _∷_, _++_, append-assoc}
-use mathlib.Core.Path.{_≡_, refl, sym, _∙_, ap}
+use mathlib.Core.Path.{_≡_, refl, ap}
 use native.Mathlib.Numerals.{add-one}
 use native.Mathlib.Omega.{arith}
 use lib.ListN.{length, drop, getD, length-append}
@@ -20,6 +20,13 @@ refused-length number value = simp length-append (omega arith)
 pub head-length : (n c k : ℕ) → length (headLine n c k) ≡ 26 + length (decimal n) + length (decimal c) + length (decimal k)
 unfolding headLine
 head-length n c k = simp length-append (omega arith)
+
+-- ten digits at most for each number
+pub refused-few : (number value : ℕ) → length (refusedLine number value) ≤ 30
+refused-few number value = omega (arith, refused-length number value, decimal-few number, decimal-few value)
+
+pub head-few : (n c k : ℕ) → length (headLine n c k) ≤ 56
+head-few n c k = omega (arith, head-length n c k, decimal-few n, decimal-few c, decimal-few k)
 
 pub pair-length : (code schedule : ℕ) → length (pairLine code schedule) ≡ 2 + length (decimal code) + length (decimal schedule)
 unfolding pairLine
@@ -39,13 +46,19 @@ unfolding paired
 lines-at codes schedules i h e =
     rw (add-one i, drop-cons codes i 0 h, drop-cons schedules i 0 (omega arith)) (lines-cons _ _)
 
--- a pair has at most ten digits twice, a space and a newline
+-- ten digits at most for each number
 pub lines-few : (pairs : List Pair) → length (pairLines pairs) ≤ 22 * length pairs
 unfolding pairLines
 lines-few [] = omega arith
 lines-few (r ∷ pairs) =
     rw (lines-cons r pairs, length-append, pair-length)
     (omega (arith, decimal-few (r .code), decimal-few (r .schedule), lines-few pairs))
+
+pub paired-length : (codes schedules : List ℕ) → length (paired codes schedules) ≤ length codes
+unfolding paired
+paired-length [] schedules = omega arith
+paired-length (a ∷ codes) [] = omega arith
+paired-length (a ∷ codes) (s ∷ schedules) = omega (arith, paired-length codes schedules)
 
 -- pairs taken apart into two arrays and put together again
 pub paired-same : (pairs : List Pair) → paired (codesOf pairs) (schedulesOf pairs) ≡ pairs

@@ -1,8 +1,8 @@
 -- The words of bytes one by one: each takes four bytes, and less than four are no word.
 -- Assumes nothing.
-use Prim.Native.Nat.{ℕ, _+_, _*_, _<_, _≤_}
+use Prim.Native.Nat.{ℕ, _+_, _<_, _≤_}
 use mathlib.Core.List.{List, [], _∷_, _++_}
-use mathlib.Core.Path.{_≡_, refl, sym, _∙_, ap}
+use mathlib.Core.Path.{_≡_, refl, ap}
 use native.Mathlib.Nat.{add-assoc}
 use native.Mathlib.Numerals.{add-one}
 use native.Mathlib.Omega.{arith}
@@ -40,11 +40,3 @@ no-word (a ∷ []) h = refl
 no-word (a ∷ b ∷ []) h = refl
 no-word (a ∷ b ∷ c ∷ []) h = refl
 no-word (a ∷ b ∷ c ∷ d ∷ bytes) h = absurd (omega arith)
-
-pub words-fit : (bytes : List ℕ) → 4 * length (wordsOf bytes) ≤ length bytes
-unfolding wordsOf
-words-fit [] = omega arith
-words-fit (a ∷ []) = omega arith
-words-fit (a ∷ b ∷ []) = omega arith
-words-fit (a ∷ b ∷ c ∷ []) = omega arith
-words-fit (a ∷ b ∷ c ∷ d ∷ bytes) = omega (arith, words-fit bytes)

@@ -4,4 +4,5 @@ pub mod Listing
 pub mod Bytes
 pub mod Lines
 pub mod Added
+pub mod Files
 pub mod Printed

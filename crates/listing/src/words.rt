@@ -18,10 +18,11 @@ fn word_at(bytes: &[u8], i: usize) -> u32
     requires { ⌜ i + 4 ≤ length (now bytes) ⌝ }
     ensures { λ r. ⌜ r ≡ wordAt (now (bytes .entry)) i ⌝ }
 {
-    wide(bytes[i])
-        + 256 * wide(bytes[i + 1])
-        + 65536 * wide(bytes[i + 2])
-        + 16777216 * wide(bytes[i + 3])
+    let a = wide(bytes[i]);
+    let b = wide(bytes[i + 1]);
+    let c = wide(bytes[i + 2]);
+    let d = wide(bytes[i + 3]);
+    a + 256 * b + 65536 * c + 16777216 * d
 }
 
 // Fills the first lent words with those of the bytes, a word at each step, and answers how many they are. Bytes after the last whole word

@@ -1,8 +1,8 @@
 -- `listing::words::words_of` meets its contract. Before turn i the words of the bytes from 4 i on are left. The measure is their number.
 -- Assumes nothing.
 use Prim.Native.Nat.{ℕ, _+_, _*_, _-_, _≤_, _<_}
-use mathlib.Core.List.{List, [], _∷_, _++_}
-use mathlib.Core.Path.{_≡_, refl}
+use mathlib.Core.List.{List}
+use mathlib.Core.Path.{_≡_}
 use native.Mathlib.Omega.{arith}
 use lib.ListN.{length, drop, set, length-drop}
 use Rattle.listing.specs.Bytes.{wordAt}
