@@ -1,0 +1,4 @@
+// A file without bytes.
+fn main() {
+    lister::run();
+}

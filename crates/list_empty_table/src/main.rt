@@ -1,0 +1,4 @@
+// The table of the empty list, P1.
+fn main() {
+    lister::run();
+}

@@ -1,0 +1,4 @@
+// A file that is not whole words.
+fn main() {
+    lister::run();
+}

@@ -1,0 +1,4 @@
+// A file of one byte too many.
+fn main() {
+    lister::run();
+}

@@ -1,0 +1,120 @@
+-- The text for a file: which answer leads to which lines, and what reading back leaves in the two arrays.
+-- Assumes nothing.
+use Prim.Native.Nat.{ℕ, _%_, _<_, _≤_}
+use mathlib.Core.List.{List, [], _∷_, _++_, map}
+use mathlib.Core.Logic.{⊎-elim}
+use mathlib.Core.Path.{_≡_, refl, _∙_, ap}
+use native.Mathlib.Nat.{zero-add}
+use native.Mathlib.Omega.{arith}
+use borrow.Author.Tests.{le-ltb, lt-ltb, eq-eqb, ne-eqb}
+use lib.ListN.{length, take, drop, length-map}
+use lib.Seq.{take-at}
+use Rattle.table.specs.Answers.{Answer, given, refused}
+use Rattle.table.specs.Words.{codeCount}
+use Rattle.audit.specs.Check.{checkOf}
+use Rattle.audit.specs.Pairs.{Pair, codesOf, schedulesOf, pairsIn, pairsOf, PairsRead}
+use Rattle.audit.specs.WellFormed.{WellFormed}
+use Rattle.audit.proofs.PairLaws.{pairs-length}
+use Rattle.audit.proofs.WellFormed.{accepted-or-refused, check-exactly}
+use Rattle.listing.specs.Added.{Added}
+use Rattle.listing.specs.Files.{FileListed, numberedOf, tableLines, textOf}
+use Rattle.listing.specs.declared.files.Numbered.the-variants.{Given, Refused}
+use Rattle.listing.specs.Listing.{wordsOf, refusedLine, tableText, fileOf, listingOf}
+use Rattle.listing.proofs.Added.{kept}
+use Rattle.listing.proofs.LineLaws.{paired-same}
+
+-- the text for bytes, by their number
+module _ (p limit : ℕ) (bytes : List ℕ) where
+  listing-is : listingOf p limit bytes ≡ textOf (fileOf p limit bytes) (wordsOf bytes)
+  unfolding listingOf textOf
+  listing-is = refl
+
+  pub too-long : 65536 < length bytes → listingOf p limit bytes ≡ refusedLine 61 0
+  unfolding fileOf textOf
+  too-long h = rw (listing-is, lt-ltb 65536 (length bytes) h)
+
+  pub ragged : length bytes ≤ 65536 → (length bytes % 4 ≡ 0 → ⊥) → listingOf p limit bytes ≡ refusedLine 62 0
+  unfolding fileOf textOf
+  ragged h e = rw (listing-is, le-ltb 65536 (length bytes) h, ne-eqb (length bytes % 4) 0 e)
+
+  pub whole :
+      length bytes ≤ 65536 → length bytes % 4 ≡ 0 → listingOf p limit bytes ≡ textOf (checkOf p limit (wordsOf bytes)) (wordsOf bytes)
+  unfolding fileOf
+  whole h e = rw (listing-is, le-ltb 65536 (length bytes) h, eq-eqb (length bytes % 4) 0 e)
+
+-- a listing from the first byte on
+pub file-listed :
+    (p limit : ℕ) (bytes : List ℕ) {old : List ℕ} {r : ℕ} {new : List ℕ} → Added (listingOf p limit bytes) 0 old r new
+    → FileListed p limit bytes old r new
+file-listed p limit bytes {old} a =
+    let length-is = a .place ∙ zero-add (length (listingOf p limit bytes)) in
+    record {
+      length-is = length-is;
+      text = a .memory ∙ ap (λ (n : ℕ). listingOf p limit bytes ++ drop n old) length-is;
+      fits = omega (arith, a .fits, kept a);
+    }
+
+-- what is written of a well-formed table, with its pairs in the first n places of two arrays
+pub record Listed (p limit : ℕ) (words : List ℕ) (n : ℕ) (codes schedules : List ℕ) : Type 0 where
+  pub few : n ≤ limit
+  pub three : 3 ≤ length words
+  pub codes-length : length (take n codes) ≡ n
+  pub schedules-length : length (take n schedules) ≡ n
+  pub text : textOf (checkOf p limit words) words ≡ tableLines words (take n codes) (take n schedules)
+
+mapped-length : {p limit : ℕ} {words : List ℕ} → WellFormed p limit words → (g : Pair → ℕ) → length (map g (pairsIn words)) ≡ codeCount words
+mapped-length {words = words} f g = length-map (pairsIn words) g ∙ pairs-length f
+
+-- with a place for each code, reading back refuses exactly what the check refuses
+module _
+    {p limit : ℕ} {words codes schedules : List ℕ} {answer : Answer} {codes′ schedules′ : List ℕ} (a : limit ≤ length codes)
+    (b : limit ≤ length schedules) (r : PairsRead p limit words codes schedules answer codes′ schedules′) where
+  refuses : {number value : ℕ} → checkOf p limit words ≡ refused number value → answer ≡ refused number value
+  unfolding pairsOf
+  refuses e = r .answers ∙ rw e
+
+  gives : WellFormed p limit words → pairsOf p limit words codes schedules ≡ given (codeCount words ∷ [])
+  unfolding pairsOf
+  gives f =
+      rw (
+        check-exactly p limit words .1 f,
+        le-ltb (length codes) (codeCount words) (omega (arith, f .few-codes)),
+        le-ltb (length schedules) (codeCount words) (omega (arith, f .few-codes)),
+      )
+
+  codes-read : WellFormed p limit words → take (codeCount words) codes′ ≡ codesOf (pairsIn words)
+  codes-read f = rw (r .codes-at-exit, gives f) (take-at _ _ _ (mapped-length f (λ (x : Pair). x .code)))
+
+  schedules-read : WellFormed p limit words → take (codeCount words) schedules′ ≡ schedulesOf (pairsIn words)
+  schedules-read f = rw (r .schedules-at-exit, gives f) (take-at _ _ _ (mapped-length f (λ (x : Pair). x .schedule)))
+
+  listed-pairs : WellFormed p limit words → Listed p limit words (codeCount words) codes′ schedules′
+  unfolding textOf tableText tableLines
+  listed-pairs f =
+      record {
+        few = f .few-codes;
+        three = f .three;
+        codes-length = rw (codes-read f) (mapped-length f (λ (x : Pair). x .code));
+        schedules-length = rw (schedules-read f) (mapped-length f (λ (x : Pair). x .schedule));
+        text = rw (check-exactly p limit words .1 f, codes-read f, schedules-read f, paired-same (pairsIn words));
+      }
+
+  pub listed : {n : ℕ} → Given n ≡ numberedOf answer → Listed p limit words n codes′ schedules′
+  listed {n} e =
+      ⊎-elim
+      (λ g.
+      let f = check-exactly p limit words .0 g in
+      let h = r .answers ∙ gives f in
+      let same : n ≡ codeCount words = cc in
+      rw same (listed-pairs f))
+      (λ (number, value, g). let h = refuses g in let z : _≡_ {A = ℕ} 0 1 = cc in absurd (omega arith))
+      (accepted-or-refused p limit words)
+
+  pub refused-text :
+      {number value : ℕ} → Refused number value ≡ numberedOf answer → textOf (checkOf p limit words) words ≡ refusedLine number value
+  unfolding textOf
+  refused-text e =
+      ⊎-elim
+      (λ g. let h = r .answers ∙ gives (check-exactly p limit words .0 g) in cc)
+      (λ (number, value, g). let h = refuses g in cc)
+      (accepted-or-refused p limit words)

@@ -1,0 +1,13 @@
+-- The listings to compare by: the checker computes each from the definitions.
+use mathlib.Core.Path.{refl}
+use Rattle.hash.specs.Hash.{hashOf}
+use Rattle.table.specs.Answers.{firstOf}
+use Rattle.table.specs.Words.{blockOf, cellIn, ownCell}
+use Rattle.audit.specs.Check.{badStart, badBlockMultiplier, badCell, misplaced, codesIn, badSquare, checkOf}
+use Rattle.audit.specs.Pairs.{stored, place, rising, pairsIn}
+use Rattle.listing.specs.Listing.{wordsOf, digitsOf, decimal, refusedLine, headLine, pairLines, tableText, fileOf, listingOf}
+use Rattle.listing.specs.Printed.{Printed}
+
+pub printed : Printed
+unfolding hashOf firstOf blockOf cellIn ownCell badStart badBlockMultiplier badCell misplaced codesIn badSquare checkOf stored place rising pairsIn wordsOf digitsOf decimal refusedLine headLine pairLines tableText fileOf listingOf
+printed = record { P5 = refl; empty-table = refl; empty-file = refl; three-bytes = refl }

@@ -1,0 +1,11 @@
+-- Lent memory that is written front to back: what a piece written from one place on leaves there.
+use Prim.Native.Nat.{ℕ, _+_, _≤_}
+use mathlib.Core.List.{List, _++_}
+use mathlib.Core.Path.{_≡_}
+use lib.ListN.{length, take, drop}
+
+-- a piece stands from `at` up to `end`, and all else is kept
+pub record Added (piece : List ℕ) (at : ℕ) (old : List ℕ) (end : ℕ) (new : List ℕ) : Type 0 where
+  pub place : end ≡ at + length piece
+  pub fits : end ≤ length old
+  pub memory : new ≡ take at old ++ (piece ++ drop end old)
