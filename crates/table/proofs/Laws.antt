@@ -1,0 +1,51 @@
+-- What the proofs of this crate, and of those above it, have in common: the facts that decide a definition's tests, and what sizes that pass tell.
+-- Assumes nothing.
+use Prim.Native.Nat.{ℕ, _-_, _≤_}
+use mathlib.Core.Bool.{Bool, true, false, _||_, true≢false}
+use mathlib.Core.List.{List}
+use mathlib.Core.Logic.{_⊎_, inl, inr}
+use mathlib.Core.Path.{_≡_, refl}
+use native.Mathlib.Omega.{arith}
+use borrow.Author.Tests.{le-ltb, lt-ltb, le-leb, lt-leb, eq-eqb, ne-eqb, ltb-false}
+use Rattle.table.specs.Answers.{outside}
+use Rattle.table.specs.Words.{codeCount, multiplier}
+use Rattle.table.specs.Lookup.{tooManyCodes, tooManyCells, badMultiplier, tooShort, badSizes}
+use Rattle.table.specs.Sized.{Sized}
+
+-- each test of a definition, from the fact that decides it
+pub ruleset tests = (le-ltb, lt-ltb, le-leb, lt-leb, eq-eqb, ne-eqb)
+
+pub true-or-false : (b : Bool) → (b ≡ true) ⊎ (b ≡ false)
+true-or-false true = inl refl
+true-or-false false = inr refl
+
+-- where `a or b` does not hold, neither does
+pub or-false : (a b : Bool) → a || b ≡ false → (a ≡ false) × (b ≡ false)
+or-false true b e = absurd (true≢false e)
+or-false false b e = (refl, e)
+
+pub within : (low high x : ℕ) → outside low high x ≡ false → (low ≤ x) × (x ≤ high)
+within low high x e = let r = or-false _ _ e in (ltb-false _ _ (r .0), ltb-false _ _ (r .1))
+
+-- sizes of which none of 12 to 15 holds
+pub sized-by :
+    {p limit : ℕ} {words : List ℕ} → tooManyCodes limit words ≡ false → tooManyCells words ≡ false → badMultiplier p words ≡ false
+    → tooShort words ≡ false → Sized p limit words
+sized-by {p} {limit} {words} codes cells k short =
+    let range = within 1 (p - 1) (multiplier words) k in
+    record {
+      few-codes = ltb-false _ _ codes;
+      few-cells = λ some. omega (arith, ltb-false, rw (ne-eqb (codeCount words) 0 (λ none. omega arith)) at cells);
+      no-cells = λ none. omega (arith, ltb-false, rw (eq-eqb (codeCount words) 0 none) at cells);
+      from-one = range .0;
+      below = omega arith;
+      whole = ltb-false _ _ short;
+    }
+
+pub sized : {p limit : ℕ} {words : List ℕ} → badSizes p limit words ≡ false → Sized p limit words
+unfolding badSizes
+sized e =
+    let codes = or-false _ _ e in
+    let cells = or-false _ _ (codes .1) in
+    let k = or-false _ _ (cells .1) in
+    sized-by (codes .0) (cells .0) (k .0) (k .1)

@@ -1,0 +1,21 @@
+-- `table::words::cell_code` meets its contract: the word of the definition, at an index from a word that was widened.
+-- Assumes nothing.
+use borrow.Author.Needs.{needs}
+use Rattle.table.proofs.words.cell_code.Statement.{statement}
+use Rattle.table.proofs.words.cell_code.Tie as tie
+
+returns : tie.Need-returns
+returns c = rw (c .before .wide .ensures .value)
+
+pub cell-code-spec : {M : Type 1} → statement M
+cell-code-spec =
+    tie.close
+    (tie.spec
+    (λ c. search needs)
+    (λ c κs. search needs)
+    (λ c. search needs)
+    (λ c. search needs)
+    (λ c. search needs)
+    (λ c. search needs)
+    (λ c. search needs)
+    returns)

@@ -1,0 +1,25 @@
+-- `table::words::cell_in` meets its contract, by what `hash` gives: a place below the block's cells, after its start.
+-- Assumes nothing.
+use native.Mathlib.Omega.{arith}
+use borrow.Author.Needs.{needs}
+use Rattle.table.specs.Words.{cellIn}
+use Rattle.table.proofs.words.cell_in.Statement.{statement}
+use Rattle.table.proofs.words.cell_in.Tie as tie
+
+returns : tie.Need-returns
+unfolding cellIn
+returns c = record { value = cc; range = omega arith }
+
+pub cell-in-spec : {M : Type 1} → statement M
+cell-in-spec =
+    tie.close
+    (tie.spec
+    (λ c κs. search needs)
+    (λ c κs. search needs)
+    (λ c. search needs)
+    (λ c κs. search needs)
+    (λ c κs. search needs)
+    (λ c κs. search needs)
+    (λ c κs. search needs)
+    (λ c. search needs)
+    returns)

@@ -1,0 +1,33 @@
+-- The sizes of a table where conditions 12 to 15 of document 01 are ruled out, in propositions, and what the code promises of a number.
+use Prim.Native.Nat.{ℕ, _+_, _*_, _<_, _≤_}
+use mathlib.Core.List.{List}
+use mathlib.Core.Path.{_≡_}
+use lib.ListN.{length}
+use Rattle.table.specs.Words.{codeCount, cellCount, multiplier, total}
+
+pub record Sized (p limit : ℕ) (words : List ℕ) : Type 0 where
+  -- 12
+  pub few-codes : codeCount words ≤ limit
+  -- 13
+  pub few-cells : 0 < codeCount words → cellCount words + 2 ≤ 3 * codeCount words
+  pub no-cells : codeCount words ≡ 0 → cellCount words ≡ 0
+  -- 14
+  pub from-one : 1 ≤ multiplier words
+  pub below : multiplier words < p
+  -- 15
+  pub whole : total words ≤ length words
+
+-- j is a block of a table that is whole
+pub record Block (words : List ℕ) (j : ℕ) : Type 0 where
+  pub whole : total words ≤ length words
+  pub below : j < codeCount words
+
+-- i is a cell of a table that is whole
+pub record Cell (words : List ℕ) (i : ℕ) : Type 0 where
+  pub whole : total words ≤ length words
+  pub below : i < cellCount words
+
+-- r is the number x, which is below the bound
+pub record Within (x bound r : ℕ) : Type 0 where
+  pub value : r ≡ x
+  pub range : r < bound
