@@ -1,4 +1,7 @@
--- In reading order: what a check answers, which tables are well-formed, and the pairs of an accepted table.
+-- In reading order: what a check answers, which tables are well-formed, and the pairs of an accepted table; then what the code promises.
 pub mod Check
 pub mod WellFormed
 pub mod Pairs
+pub mod Merge
+pub mod Checked
+pub mod Blocks

@@ -1,1 +1,4 @@
 // Check, and reading an accepted table back.
+pub mod blocks;
+pub mod check;
+pub mod conditions;

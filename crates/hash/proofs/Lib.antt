@@ -7,6 +7,7 @@ pub mod Collisions
 pub mod Counting
 pub mod Members
 pub mod Orders
+pub mod Permuted
 pub mod Multipliers
 pub mod LeastLaws
 pub mod Theorems

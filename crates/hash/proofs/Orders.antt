@@ -17,13 +17,13 @@ use Rattle.hash.proofs.Members.{at-mem}
 
 -- ---- what an order keeps
 
-pub perm-length : {s r : List ℕ} → List·Permᴰ s r → length s ≡ length r
+pub perm-length : {A : Type 0} {s r : List A} → List·Permᴰ s r → length s ≡ length r
 perm-length List·Permᴰ·nil = refl
 perm-length (List·Permᴰ·cons e q) = ap suc (perm-length q)
 perm-length (List·Permᴰ·swap e f) = refl
 perm-length (List·Permᴰ·trans q u) = perm-length q ∙ perm-length u
 
-pub perm-mem : {a : ℕ} {s r : List ℕ} → List·Permᴰ s r → List·Memᴰ a s → List·Memᴰ a r
+pub perm-mem : {A : Type 0} {a : A} {s r : List A} → List·Permᴰ s r → List·Memᴰ a s → List·Memᴰ a r
 perm-mem List·Permᴰ·nil m = m
 perm-mem (List·Permᴰ·cons e q) m =
     elim (List·Memᴰ·cases-cons m) [ inl h ↦ List·Memᴰ·head (h ∙ e) | inr t ↦ List·Memᴰ·tail (perm-mem q t) ]

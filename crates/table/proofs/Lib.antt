@@ -1,3 +1,17 @@
 -- What several proofs cite: how a definition's tests are decided, what sizes that pass them tell, and the steps of a panel's walk.
 pub mod Laws
 pub mod Walk
+-- What several proofs cite: how a definition's tests are decided, what sizes that pass them tell, the first index of which a test holds,
+-- and refusals one below the other.
+pub mod Laws
+pub mod First
+pub mod Refusals
+-- The table of a list: lists by their function, the words before the cells, what each cell holds, the multipliers that are taken,
+-- the codes' own cells, and what is read from the words.
+pub mod Tabulate
+pub mod Front
+pub mod Held
+pub mod Chosen
+pub mod Own
+pub mod Contents
+pub mod Order

@@ -1,0 +1,151 @@
+-- The blocks of a table whose starts rise follow one another from cell 0 to cell c. So a code is in its own cell exactly where the cell's block
+-- is its block, and the cell's place is its place there: a block without cells has none of these places.
+-- Assumes nothing.
+use Prim.Native.Nat.{ℕ, zero, suc, _+_, _*_, _-_, _%_, _<_, _≤_, zero-le}
+use mathlib.Core.Bool.{Bool, true, false, cond, not, _&&_, _||_}
+use mathlib.Core.List.{List, _++_}
+use mathlib.Core.Logic.{⊎-elim}
+use mathlib.Core.Path.{_≡_, refl, sym, ap, subst, _∙_}
+use native.Mathlib.Decide.{ℕ-discrete, decLt, decLe}
+use native.Mathlib.Nat.{mod-lt, le-antisymm}
+use native.Mathlib.Numerals.{add-one}
+use native.Mathlib.Omega.{arith}
+use borrow.Author.Tests.{eq-eqb, ne-eqb}
+use lib.Dec.{eqb}
+use lib.ListN.{length, getD, take, drop, length-drop}
+use lib.Seq.{getD-take, getD-drop, length-take-le}
+use Rattle.hash.specs.Hash.{hashOf}
+use Rattle.table.specs.Words.{codeCount, cellCount, multiplier, total, blockStart, blockEnd, blockMultiplier, cellCode, blockOf, cellIn, ownCell}
+use Rattle.audit.specs.Check.{misplaced, blockCodes}
+use Rattle.audit.specs.Blocks.{Starts, strange, strangeAt}
+
+hash-lt : (p k w a : ℕ) → 0 < w → hashOf p k w a < w
+unfolding hashOf
+hash-lt p k w a l = mod-lt ((k * a) % p) l
+
+pub block-lt : (p : ℕ) (words : List ℕ) (a : ℕ) → 0 < codeCount words → blockOf p words a < codeCount words
+unfolding blockOf
+block-lt p words a l = hash-lt p (multiplier words) (codeCount words) a l
+
+-- where block j starts, and c after the last: `blockEnd words j` is `edge words (j + 1)`
+abbrev pub edge : List ℕ → ℕ → ℕ
+edge words j = cond (eqb j (codeCount words)) (cellCount words) (blockStart words j)
+
+module _ (words : List ℕ) (s : Starts words) where
+  pub edge-start : (j : ℕ) → j < codeCount words → edge words j ≡ blockStart words j
+  edge-start j l = rw (ne-eqb j (codeCount words) (omega arith))
+
+  pub edge-last : edge words (codeCount words) ≡ cellCount words
+  edge-last = rw (eq-eqb (codeCount words) (codeCount words) refl)
+
+  pub edge-zero : edge words 0 ≡ 0
+  edge-zero =
+      elim (ℕ-discrete 0 (codeCount words)) [
+        | yes e ↦ rw (eq-eqb 0 (codeCount words) e) (s .none (sym e))
+        | no ne ↦ rw (ne-eqb 0 (codeCount words) ne) (s .first (omega arith))
+      ]
+
+  pub edge-step : (j : ℕ) → j < codeCount words → edge words j ≤ edge words (j + 1)
+  edge-step j l =
+      elim (ℕ-discrete (j + 1) (codeCount words)) [
+        | yes e ↦ rw (ne-eqb j (codeCount words) (omega arith), eq-eqb (j + 1) (codeCount words) e) (s .within j l)
+        | no ne ↦ rw (ne-eqb j (codeCount words) (omega arith), ne-eqb (j + 1) (codeCount words) ne) (s .rising j (omega arith))
+      ]
+
+  pub edges-rise : (j i : ℕ) → i ≤ j → j ≤ codeCount words → edge words i ≤ edge words j
+  edges-rise zero i l h = omega (arith, ap (edge words) (le-antisymm l zero-le))
+  edges-rise (suc j) i l h =
+      elim (ℕ-discrete i (suc j)) [
+        | yes e ↦ omega (arith, ap (edge words) e)
+        | no ne ↦ omega (arith, edges-rise j i (omega arith) (omega arith), rw (add-one j) at (edge-step j h))
+      ]
+
+  pub edge-within : (j : ℕ) → j ≤ codeCount words → edge words j ≤ cellCount words
+  edge-within j h = omega (arith, edges-rise (codeCount words) j h (omega arith), edge-last)
+
+  -- a cell of one block is none of another
+  apart :
+      (b j x y : ℕ) → b < codeCount words → j < codeCount words → (b ≡ j → ⊥) → edge words b ≤ x → x < edge words (b + 1)
+      → edge words j ≤ y → y < edge words (j + 1) → x ≡ y → ⊥
+  apart b j x y lb lj ne b₀ b₁ j₀ j₁ e =
+      elim (decLt b j) [
+        | yes l ↦ omega (arith, edges-rise j (b + 1) (omega arith) (omega arith))
+        | no ge ↦ omega (arith, edges-rise b (j + 1) (omega arith) (omega arith))
+      ]
+
+  pub start-le-end : (j : ℕ) → j < codeCount words → blockStart words j ≤ blockEnd words j
+  start-le-end j l = omega (arith, edge-step j l, edge-start j l)
+
+  pub end-within : (j : ℕ) → j < codeCount words → blockEnd words j ≤ cellCount words
+  end-within j l = edge-within (j + 1) (omega arith)
+
+  -- a place in a block that has cells is one of them
+  pub cell-lt : (p b a : ℕ) → b < codeCount words → (blockStart words b ≡ blockEnd words b → ⊥) → cellIn p words b a < blockEnd words b
+  unfolding cellIn
+  cell-lt p b a l has =
+      omega
+      (arith, hash-lt p (blockMultiplier words b) (blockEnd words b - blockStart words b) a (omega (arith, start-le-end b l)))
+
+eqb-add : (s h t : ℕ) → eqb (s + h) (s + t) ≡ eqb h t
+eqb-add s h t =
+    elim (ℕ-discrete h t) [
+      | yes e ↦ eq-eqb (s + h) (s + t) (omega arith) ∙ sym (eq-eqb h t e)
+      | no ne ↦ ne-eqb (s + h) (s + t) (omega arith) ∙ sym (ne-eqb h t ne)
+    ]
+
+module _ (p : ℕ) (words : List ℕ) (s : Starts words) (j t a : ℕ) (lj : j < codeCount words) (lt : t < blockEnd words j - blockStart words j) where
+  -- a code that belongs to block b is in its own cell, at place t of block j, exactly where b is j and t its place
+  own-place :
+      (b : ℕ) → b < codeCount words
+      → not (eqb b j && eqb (hashOf p (blockMultiplier words j) (blockEnd words j - blockStart words j) a) t)
+      ≡ (eqb (blockStart words b) (blockEnd words b) || not (eqb (cellIn p words b a) (blockStart words j + t)))
+  unfolding cellIn
+  own-place b lb =
+      elim (ℕ-discrete b j) [
+        | yes e ↦
+            rw (e, eq-eqb j j refl, ne-eqb (blockStart words j) (blockEnd words j) (omega arith), eqb-add) refl
+        | no ne ↦
+            rw (ne-eqb b j ne)
+            (elim (ℕ-discrete (blockStart words b) (blockEnd words b)) [
+              | yes e ↦ rw (eq-eqb (blockStart words b) (blockEnd words b) e) refl
+              | no has ↦
+                  rw (
+                    ne-eqb (blockStart words b) (blockEnd words b) has,
+                    ne-eqb (cellIn p words b a) (blockStart words j + t)
+                        (apart words s b j (cellIn p words b a) (blockStart words j + t) lb lj ne
+                        (omega (arith, edge-start words s b lb))
+                        (cell-lt words s p b a lb has)
+                        (omega (arith, edge-start words s j lj))
+                        (omega arith)),
+                  )
+                  refl
+            ])
+      ]
+
+  strange-is :
+      strange p (multiplier words) (codeCount words) j (blockMultiplier words j) (blockEnd words j - blockStart words j) t a
+      ≡ (not (eqb a 0) && (eqb (blockStart words (blockOf p words a)) (blockEnd words (blockOf p words a))
+      || not (eqb (ownCell p words a) (blockStart words j + t))))
+  unfolding strange blockOf ownCell
+  strange-is = ap (λ (x : Bool). not (eqb a 0) && x)
+      (own-place (blockOf p words a) (block-lt p words a (omega arith)))
+
+-- the part of the words that is handed on for block j
+module _ (words : List ℕ) (s : Starts words) (whole : total words ≤ length words) (j : ℕ) (lj : j < codeCount words) where
+  pub part-length : length (blockCodes words j) ≡ blockEnd words j - blockStart words j
+  part-length =
+      length-take-le (blockEnd words j - blockStart words j) (drop (3 + 2 * codeCount words + blockStart words j) words)
+      (rw length-drop (omega (arith, end-within words s j lj)))
+
+  part-at : (t : ℕ) → t < blockEnd words j - blockStart words j → getD (blockCodes words j) t 0 ≡ cellCode words (blockStart words j + t)
+  part-at t l = rw (getD-take, getD-drop) (ap (λ (i : ℕ). getD words i 0) (omega arith))
+
+  pub strange-misplaced :
+      (p t : ℕ) → t < length (blockCodes words j)
+      → strangeAt p (multiplier words) (codeCount words) j (blockMultiplier words j) (blockCodes words j) t
+      ≡ misplaced p words (blockStart words j + t)
+  unfolding strangeAt misplaced
+  strange-misplaced p t l =
+      let l : t < blockEnd words j - blockStart words j = rw part-length at l in
+      rw (part-length, part-at t l)
+      (strange-is p words s j t (cellCode words (blockStart words j + t)) lj l)

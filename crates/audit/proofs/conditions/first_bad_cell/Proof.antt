@@ -1,0 +1,58 @@
+use Prim.Native.Nat.{_-_, _≤_}
+use mathlib.Core.Path.{sym, _∙_}
+use native.Mathlib.Omega.{arith}
+use borrow.Author.Needs.{needs}
+use Rattle.table.specs.Words.{cellCount}
+use Rattle.table.proofs.First.{Below, below-none, below-next, first-found, first-end}
+use Rattle.audit.specs.Check.{badCell}
+use Rattle.audit.proofs.conditions.first_bad_cell.Statement.{statement}
+use Rattle.audit.proofs.conditions.first_bad_cell.Tie as tie
+
+abbrev Inv-loop : tie.InvT-loop
+Inv-loop p words c i₀ i = (i ≤ cellCount words) × Below (badCell p words) i
+
+abbrev μ-loop : tie.MeasureT-loop
+μ-loop p words c i₀ i = cellCount words - i
+
+shared-slice-read-wide : tie.Need-shared-slice-read-wide Inv-loop μ-loop
+shared-slice-read-wide c = omega arith
+
+wide-requires : tie.Need-wide-requires Inv-loop μ-loop
+wide-requires c κs = search needs
+
+loop-holds : tie.Need-loop-holds Inv-loop μ-loop
+loop-holds c = (omega arith, below-none _)
+
+bad-cell-requires : tie.Need-bad-cell-requires Inv-loop μ-loop
+bad-cell-requires c κs = search needs
+
+returns : tie.Need-returns Inv-loop μ-loop
+returns c = sym (first-found _ _ _ (omega arith) (c .before .before .before .loop .inv .1) (sym (c .before .bad-cell .ensures) ∙ c .if1 .taken))
+
+add-i : tie.Need-add-i Inv-loop μ-loop
+add-i c = omega arith
+
+loop-less : tie.Need-loop-less Inv-loop μ-loop
+loop-less c = omega arith
+
+loop-again : tie.Need-loop-again Inv-loop μ-loop
+loop-again c = (omega arith, below-next _ _ (c .before .before .before .loop .inv .1) (sym (c .before .bad-cell .ensures) ∙ c .if1 .left))
+
+returns-2 : tie.Need-returns-2 Inv-loop μ-loop
+returns-2 c = sym (first-end _ _ _ (c .before .loop .inv .0) (omega arith) (c .before .loop .inv .1))
+
+pub first-bad-cell-spec : {M : Type 1} → statement M
+first-bad-cell-spec =
+    tie.close
+    (tie.spec
+    Inv-loop
+    μ-loop
+    shared-slice-read-wide
+    wide-requires
+    loop-holds
+    bad-cell-requires
+    returns
+    add-i
+    loop-less
+    loop-again
+    returns-2)

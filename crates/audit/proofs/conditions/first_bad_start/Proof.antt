@@ -1,0 +1,58 @@
+use Prim.Native.Nat.{_-_, _≤_}
+use mathlib.Core.Path.{sym, _∙_}
+use native.Mathlib.Omega.{arith}
+use borrow.Author.Needs.{needs}
+use Rattle.table.specs.Words.{codeCount}
+use Rattle.table.proofs.First.{Below, below-none, below-next, first-found, first-end}
+use Rattle.audit.specs.Check.{badStart}
+use Rattle.audit.proofs.conditions.first_bad_start.Statement.{statement}
+use Rattle.audit.proofs.conditions.first_bad_start.Tie as tie
+
+abbrev Inv-loop : tie.InvT-loop
+Inv-loop words n j₀ j = (j ≤ codeCount words) × Below (badStart words) j
+
+abbrev μ-loop : tie.MeasureT-loop
+μ-loop words n j₀ j = codeCount words - j
+
+shared-slice-read-wide : tie.Need-shared-slice-read-wide Inv-loop μ-loop
+shared-slice-read-wide c = omega arith
+
+wide-requires : tie.Need-wide-requires Inv-loop μ-loop
+wide-requires c κs = search needs
+
+loop-holds : tie.Need-loop-holds Inv-loop μ-loop
+loop-holds c = (omega arith, below-none _)
+
+bad-start-requires : tie.Need-bad-start-requires Inv-loop μ-loop
+bad-start-requires c κs = search needs
+
+returns : tie.Need-returns Inv-loop μ-loop
+returns c = sym (first-found _ _ _ (omega arith) (c .before .before .before .loop .inv .1) (sym (c .before .bad-start .ensures) ∙ c .if1 .taken))
+
+add-j : tie.Need-add-j Inv-loop μ-loop
+add-j c = omega arith
+
+loop-less : tie.Need-loop-less Inv-loop μ-loop
+loop-less c = omega arith
+
+loop-again : tie.Need-loop-again Inv-loop μ-loop
+loop-again c = (omega arith, below-next _ _ (c .before .before .before .loop .inv .1) (sym (c .before .bad-start .ensures) ∙ c .if1 .left))
+
+returns-2 : tie.Need-returns-2 Inv-loop μ-loop
+returns-2 c = sym (first-end _ _ _ (c .before .loop .inv .0) (omega arith) (c .before .loop .inv .1))
+
+pub first-bad-start-spec : {M : Type 1} → statement M
+first-bad-start-spec =
+    tie.close
+    (tie.spec
+    Inv-loop
+    μ-loop
+    shared-slice-read-wide
+    wide-requires
+    loop-holds
+    bad-start-requires
+    returns
+    add-j
+    loop-less
+    loop-again
+    returns-2)

@@ -1,0 +1,37 @@
+-- One block of a table by itself: what the check hands on, and what it relies on there.
+use Prim.Native.Nat.{ℕ, suc, _+_, _<_, _≤_}
+use mathlib.Core.Bool.{Bool, cond, not, _&&_}
+use mathlib.Core.List.{List}
+use mathlib.Core.Path.{_≡_}
+use lib.Dec.{eqb, ltb}
+use lib.ListN.{length, getD}
+use Rattle.hash.specs.Hash.{hashOf}
+use Rattle.table.specs.Answers.{firstOf}
+use Rattle.table.specs.Words.{codeCount, cellCount, blockStart}
+use Rattle.audit.specs.Check.{codesIn}
+use Rattle.audit.specs.declared.blocks.Placed.{Placed}
+
+-- none of 13 and 16 holds: the blocks follow one another from cell 0 to cell c
+pub record Starts (words : List ℕ) : Type 0 where
+  pub none : codeCount words ≡ 0 → cellCount words ≡ 0
+  pub first : 0 < codeCount words → blockStart words 0 ≡ 0
+  pub rising : (j : ℕ) → j + 1 < codeCount words → blockStart words j ≤ blockStart words (j + 1)
+  pub within : (j : ℕ) → j < codeCount words → blockStart words j ≤ cellCount words
+
+-- code a at place t of the w cells of block j is in a cell that is not its own: its block or its place is another
+unfoldable pub strange : ℕ → ℕ → ℕ → ℕ → ℕ → ℕ → ℕ → ℕ → Bool
+strange p k n j q w t a = not (eqb a 0) && not (eqb (hashOf p k n a) j && eqb (hashOf p q w a) t)
+
+-- the same of the code at place t of the block's part
+unfoldable pub strangeAt : ℕ → ℕ → ℕ → ℕ → ℕ → List ℕ → ℕ → Bool
+unfolding strange
+strangeAt p k n j q part t = strange p k n j q (length part) t (getD part t 0)
+
+-- `firstOf` of one index more, i, from that of i and from whether the test holds there
+abbrev pub firstNext : ℕ → ℕ → Bool → ℕ
+firstNext first i holds = cond (ltb first i) first (cond holds i (suc i))
+
+-- what the test of block j finds in its part
+pub record Tested (p k n j q : ℕ) (part : List ℕ) (r : Placed) : Type 0 where
+  pub first : r .first ≡ firstOf (length part) (strangeAt p k n j q part)
+  pub codes : r .codes ≡ codesIn part
