@@ -1,11 +1,9 @@
--- What several proofs cite: how a definition's tests are decided, what sizes that pass them tell, and the steps of a panel's walk.
-pub mod Laws
-pub mod Walk
 -- What several proofs cite: how a definition's tests are decided, what sizes that pass them tell, the first index of which a test holds,
--- and refusals one below the other.
+-- refusals one below the other, and the steps of a panel's walk.
 pub mod Laws
 pub mod First
 pub mod Refusals
+pub mod Walk
 -- The table of a list: lists by their function, the words before the cells, what each cell holds, the multipliers that are taken,
 -- the codes' own cells, and what is read from the words.
 pub mod Tabulate
