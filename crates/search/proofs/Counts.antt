@@ -19,7 +19,7 @@ use Rattle.search.specs.Blocks.{countOf}
 use Rattle.search.proofs.Ends.{drop-before, together-drop}
 
 -- one count more
-raised : (counts : List ℕ) (t u : ℕ) → t < length counts → getD (set counts t (getD counts t 0 + 1)) u 0 ≡ indicator (eqb t u) + getD counts u 0
+pub raised : (counts : List ℕ) (t u : ℕ) → t < length counts → getD (set counts t (getD counts t 0 + 1)) u 0 ≡ indicator (eqb t u) + getD counts u 0
 raised counts t u l =
     elim (ℕ-discrete u t) [
       | yes e ↦ rw e (omega (arith, getD-set-same counts t (getD counts t 0 + 1) 0 l, indicator-eq t t refl))

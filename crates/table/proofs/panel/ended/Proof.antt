@@ -1,14 +1,8 @@
--- `table::panel::ended` meets its contract, case by case.
+-- `table::panel::ended` meets its contract, case by case: each arm is told which case f is.
 -- Assumes nothing.
 use borrow.Author.Needs.{needs}
 use Rattle.table.proofs.panel.ended.Statement.{statement}
 use Rattle.table.proofs.panel.ended.Tie as tie
-
-returns : tie.Need-returns
-returns c = cc
-
-returns-2 : tie.Need-returns-2
-returns-2 c = cc
 
 pub ended-spec : {M : Type 1} → statement M
 ended-spec =
@@ -20,9 +14,9 @@ ended-spec =
     (λ c. search needs)
     (λ c. search needs)
     (λ c. search needs)
-    returns
-    returns-2
-    (λ c. cc)
-    (λ c. cc)
-    (λ c. cc)
-    (λ c. cc))
+    (λ c. rw (c .before .f .given .1))
+    (λ c. rw (c .enum-told .given .1))
+    (λ c. rw (c .enum-told2 .given .1))
+    (λ c. rw (c .enum-told3 .given .1))
+    (λ c. rw (c .enum-told4 .given .1))
+    (λ c. rw (c .enum-told5 .given .1)))

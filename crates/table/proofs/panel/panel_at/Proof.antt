@@ -4,7 +4,6 @@ use mathlib.Core.Path.{_∙_}
 use borrow.Author.Needs.{needs}
 use borrow.Author.Tests.{lt-ltb, le-ltb, eq-eqb, ne-eqb}
 use Rattle.table.specs.Panel.{panelOf}
-use Rattle.table.proofs.Laws.{tests}
 use Rattle.table.proofs.panel.panel_at.Statement.{statement}
 use Rattle.table.proofs.panel.panel_at.Tie as tie
 
