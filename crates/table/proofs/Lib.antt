@@ -1,5 +1,4 @@
 -- What several proofs cite: how a definition's tests are decided, what sizes that pass them tell, the first index of which a test holds,
--- refusals one below the other, and the steps of a panel's walk.
 -- refusals one below the other, the steps of a panel's walk and of a lookup.
 pub mod Laws
 pub mod First
