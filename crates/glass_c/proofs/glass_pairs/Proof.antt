@@ -5,7 +5,7 @@ use Rattle.glass_c.proofs.glass_pairs.Tie as tie
 
 returns : tie.Need-returns
 returns c =
-    let read = c .before .before .before .pairs .ensures in
+    let read = c .before .before .before .before .before .pairs .ensures in
     record {
       shows = rw (read .answers) at (c .shown .ensures);
       codes-at-exit = read .codes-at-exit;
@@ -13,4 +13,4 @@ returns c =
     }
 
 pub glass-pairs-spec : {M : Type 1} → statement M
-glass-pairs-spec = tie.close (tie.spec (λ c κs. search needs) (λ c κs. search needs) returns)
+glass-pairs-spec = tie.close (tie.spec (λ c κs. search needs) (λ c κs. search needs) (λ c. search needs) (λ c. search needs) returns)
