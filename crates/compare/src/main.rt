@@ -1,0 +1,161 @@
+// Builds each list of its input twice, in the list's order and in the reverse, and prints a line for each table: n, c, k, the total and a digest of all
+// words. tools/second_program.py makes the input and the lines that are expected. Input: n, n codes and n schedules, four bytes each, least first.
+ghost use Prim.Native.Nat.{_≤_, _<_};
+ghost use mathlib.Core.Path.{_≡_};
+ghost use lib.ListN.{length};
+
+fn wide(x: u8) -> u32 {
+    x as u32
+}
+
+fn wide_word(x: u32) -> u64
+    ensures { λ r. ⌜ r < 4294967296 ⌝ }
+{
+    x as u64
+}
+
+enum Next {
+    Word(u32),
+    End,
+}
+
+fn read_word() -> Next {
+    let mut bytes = [0u8; 4];
+    if io::read_full(0, &mut bytes) < 4 {
+        return Next::End;
+    }
+    word(&bytes)
+}
+
+fn word(bytes: &[u8; 4]) -> Next {
+    let low = (wide(bytes[0]) as u64) + 256 * (wide(bytes[1]) as u64);
+    let high = (wide(bytes[2]) as u64) + 256 * (wide(bytes[3]) as u64);
+    Next::Word(((low + 65536 * high) % 4294967296) as u32)
+}
+
+// Fills the list from the input; false where the input ends first.
+fn read_list(list: &mut [u32]) -> bool {
+    let mut i: usize = 0;
+    while i < list.len() {
+        let next = read_word();
+        let Next::Word(x) = next else {
+            return false;
+        };
+        list[i] = x;
+        i = i + 1;
+    }
+    true
+}
+
+// The list from its last element to its first.
+fn reverse(list: &[u32], turned: &mut [u32])
+    requires { ⌜ length (now turned) ≡ length (now list) ⌝ }
+{
+    let mut i: usize = 0;
+    while i < list.len() {
+        turned[i] = list[list.len() - 1 - i];
+        i = i + 1;
+    }
+}
+
+fn digest(words: &[u32]) -> u64 {
+    let mut d: u64 = 0;
+    let mut i: usize = 0;
+    while i < words.len() {
+        d = (d * 65599 + wide_word(words[i]) + 1) % 4294967291;
+        i = i + 1;
+    }
+    d
+}
+
+fn print_field(x: u64) {
+    io::print_decimal(1, x);
+    io::write_all(1, b" ");
+}
+
+fn print_table(words: &[u32]) {
+    if words.len() < 3 {
+        return;
+    }
+    print_field(wide_word(words[0]));
+    print_field(wide_word(words[1]));
+    print_field(wide_word(words[2]));
+    print_field(words.len() as u64);
+    io::print_decimal(1, digest(words));
+    io::write_all(1, b"\n");
+}
+
+fn build_and_print(codes: &[u32], schedules: &[u32]) {
+    let mut words = [0u32; 16384];
+    let answer = glass_c::glass_build(codes, schedules, &mut words);
+    let number = answer.number;
+    let total = answer.value as usize;
+    if number != 0 {
+        return;
+    }
+    if 16384 < total {
+        return;
+    }
+    print_table(&words[..total]);
+}
+
+fn both_orders(codes: &[u32], schedules: &[u32], codes2: &mut [u32], schedules2: &mut [u32])
+    requires { ⌜ (length (now codes2) ≡ length (now codes)) × (length (now schedules2) ≡ length (now schedules)) ⌝ }
+{
+    build_and_print(codes, schedules);
+    reverse(codes, codes2);
+    reverse(schedules, schedules2);
+    build_and_print(codes2, schedules2);
+}
+
+// One list of as many pairs as there are places; false where the input ends first.
+fn read_and_build(
+    codes: &mut [u32],
+    schedules: &mut [u32],
+    codes2: &mut [u32],
+    schedules2: &mut [u32],
+) -> bool
+    requires { ⌜ (length (now codes2) ≡ length (now codes)) × (length (now schedules2) ≡ length (now schedules)) ⌝ }
+{
+    if !read_list(codes) {
+        return false;
+    }
+    if !read_list(schedules) {
+        return false;
+    }
+    both_orders(codes, schedules, codes2, schedules2);
+    true
+}
+
+// The next list; false at the end of the input.
+fn next_list() -> bool {
+    let next = read_word();
+    let Next::Word(size) = next else {
+        return false;
+    };
+    let n = size as usize;
+    if 2048 < n {
+        return false;
+    }
+    let mut codes = [0u32; 2048];
+    let mut schedules = [0u32; 2048];
+    let mut codes2 = [0u32; 2048];
+    let mut schedules2 = [0u32; 2048];
+    read_and_build(
+        &mut codes[..n],
+        &mut schedules[..n],
+        &mut codes2[..n],
+        &mut schedules2[..n],
+    )
+}
+
+fn main() {
+    // an input of more lists than this is left there
+    let mut left: u32 = 1000000;
+    while 0 < left {
+        if !next_list() {
+            return;
+        }
+        left = left - 1;
+    }
+}

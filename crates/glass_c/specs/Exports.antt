@@ -1,0 +1,19 @@
+-- What C sees of the calls that fill lent memory: the answer, and the memory at exit.
+use Prim.Native.Nat.{ℕ}
+use mathlib.Core.List.{List}
+use mathlib.Core.Path.{_≡_}
+use lib.ListN.{length}
+use Rattle.table.specs.Answers.{filled}
+use Rattle.audit.specs.Pairs.{codesOf, schedulesOf, pairsIn, pairsOf}
+use Rattle.builder.specs.Build.{buildOf, builtWords}
+use Rattle.glass_c.specs.declared.GlassAnswer.{GlassAnswer}
+use Rattle.glass_c.specs.Numbers.{Shown}
+
+pub record BuildShown (p limit : ℕ) (codes schedules words : List ℕ) (r : GlassAnswer) (words′ : List ℕ) : Type 0 where
+  pub shows : Shown (buildOf p limit codes schedules (length words)) r
+  pub words-at-exit : words′ ≡ builtWords p limit codes schedules words
+
+pub record PairsShown (p limit : ℕ) (words codes schedules : List ℕ) (r : GlassAnswer) (codes′ schedules′ : List ℕ) : Type 0 where
+  pub shows : Shown (pairsOf p limit words codes schedules) r
+  pub codes-at-exit : codes′ ≡ filled (pairsOf p limit words codes schedules) (codesOf (pairsIn words)) codes
+  pub schedules-at-exit : schedules′ ≡ filled (pairsOf p limit words codes schedules) (schedulesOf (pairsIn words)) schedules

@@ -1,0 +1,58 @@
+// The C interface (include/glass.h): each function shows the answer of the proved one as a number and a value.
+mod built;
+mod checked;
+mod fired;
+mod found;
+mod read;
+
+ghost use Rattle.table.specs.Lookup.{lookupOf};
+ghost use Rattle.table.specs.Panel.{panelOf};
+ghost use Rattle.audit.specs.Check.{checkOf};
+ghost use Rattle.glass_c.specs.Numbers.{Shown};
+ghost use Rattle.glass_c.specs.Exports.{BuildShown, PairsShown};
+
+// 0 with the result, 1000 for an absent or unknown code, or a refusal's number with what comes with it.
+#[repr(C)]
+pub struct GlassAnswer {
+    pub number: u32,
+    pub value: u32,
+}
+
+#[no_mangle]
+pub extern "C" fn glass_build(codes: &[u32], schedules: &[u32], words: &mut [u32]) -> GlassAnswer
+    ensures { λ r. ⌜ BuildShown 65537 2048 (now (codes .entry)) (now (schedules .entry)) (now (words .entry)) r (now (words .exit)) ⌝ }
+{
+    built::shown(builder::build::build(codes, schedules, words))
+}
+
+#[no_mangle]
+pub extern "C" fn glass_check(words: &[u32]) -> GlassAnswer
+    ensures { λ r. ⌜ Shown (checkOf 65537 2048 (now (words .entry))) r ⌝ }
+{
+    checked::shown(audit::check::check(words))
+}
+
+#[no_mangle]
+pub extern "C" fn glass_lookup(words: &[u32], code: u32) -> GlassAnswer
+    ensures { λ r. ⌜ Shown (lookupOf 65537 2048 (now (words .entry)) code) r ⌝ }
+{
+    found::shown(table::lookup::lookup(words, code))
+}
+
+#[no_mangle]
+pub extern "C" fn glass_panel(words: &[u32], codes: &[u32]) -> GlassAnswer
+    ensures { λ r. ⌜ Shown (panelOf 65537 2048 (now (words .entry)) (now (codes .entry))) r ⌝ }
+{
+    fired::shown(table::panel::panel(words, codes))
+}
+
+#[no_mangle]
+pub extern "C" fn glass_pairs(
+    words: &[u32],
+    codes: &mut [u32],
+    schedules: &mut [u32],
+) -> GlassAnswer
+    ensures { λ r. ⌜ PairsShown 65537 2048 (now (words .entry)) (now (codes .entry)) (now (schedules .entry)) r (now (codes .exit)) (now (schedules .exit)) ⌝ }
+{
+    read::shown(audit::pairs::pairs(words, codes, schedules))
+}
