@@ -1,0 +1,278 @@
+#include "compare.h"
+
+#include "glass.h"
+#include "lists.h"
+
+#include <algorithm>
+#include <cstdio>
+#include <cstdlib>
+#include <map>
+#include <vector>
+
+extern "C" {
+#define DECLARED(prefix)                                                                                                          \
+    glass_answer prefix##_build(const uint32_t *, size_t, const uint32_t *, size_t, uint32_t *, size_t);                          \
+    glass_answer prefix##_check(const uint32_t *, size_t);                                                                        \
+    glass_answer prefix##_lookup(const uint32_t *, size_t, uint32_t);                                                             \
+    glass_answer prefix##_panel(const uint32_t *, size_t, const uint32_t *, size_t);                                              \
+    glass_answer prefix##_pairs(const uint32_t *, size_t, uint32_t *, size_t, uint32_t *, size_t);
+DECLARED(yard)
+DECLARED(yardgcc)
+}
+
+namespace {
+
+using Words = std::vector<uint32_t>;
+
+struct Functions {
+    const char *name;
+    decltype(&glass_build) build;
+    decltype(&glass_check) check;
+    decltype(&glass_lookup) lookup;
+    decltype(&glass_panel) panel;
+    decltype(&glass_pairs) pairs;
+};
+
+#define FUNCTIONS(name, prefix) \
+    { name, prefix##_build, prefix##_check, prefix##_lookup, prefix##_panel, prefix##_pairs }
+
+const Functions all[] = {FUNCTIONS("ours", glass), FUNCTIONS("yardstick (clang)", yard), FUNCTIONS("yardstick (gcc)", yardgcc)};
+
+// how often each operation gave each number
+std::map<std::string, std::map<uint32_t, uint64_t>> seen;
+
+void changed(const char *operation) {
+    std::fprintf(stderr, "%s: ours changed lent memory on a refusal\n", operation);
+    std::exit(1);
+}
+
+void differ(const char *operation, const char *who, const char *what) {
+    std::fprintf(stderr, "%s: %s differs from ours in %s\n", operation, who, what);
+    std::exit(1);
+}
+
+void same(const char *operation, const char *who, glass_answer a, glass_answer b) {
+    if (a.number == b.number && a.value == b.value) return;
+    std::fprintf(stderr, "%s: ours %u %u, %s %u %u\n", operation, a.number, a.value, who, b.number, b.value);
+    std::exit(1);
+}
+
+// Lent memory stands between words that are not lent.
+enum { AROUND = 4 };
+
+Words lent(size_t len, Random &r) {
+    Words w(len + 2 * AROUND);
+    for (uint32_t &x : w) x = r.next();
+    return w;
+}
+
+// The table that ours makes of a list, in any length of lent words; empty where it is refused.
+Words built(Words codes, Words schedules, size_t len, Random &r) {
+    codes.reserve(1), schedules.reserve(1); // pointers that are not null
+    const Words codes_before = codes, schedules_before = schedules, before = lent(len, r);
+    Words first;
+    glass_answer a = {0, 0};
+    for (const Functions &f : all) {
+        Words w = before;
+        glass_answer b = f.build(codes.data(), codes.size(), schedules.data(), schedules.size(), w.data() + AROUND, len);
+        if (&f == all) {
+            a = b, first = w;
+            if (a.number && w != before) changed("build");
+        }
+        same("build", f.name, a, b);
+        if (w != first) differ("build", f.name, "the lent words");
+        if (codes != codes_before || schedules != schedules_before) differ("build", f.name, "the list");
+    }
+    seen["build"][a.number]++;
+    if (a.number) return {};
+    return Words(first.begin() + AROUND, first.begin() + AROUND + a.value);
+}
+
+void lookups(const Words &table, const Words &codes) {
+    for (uint32_t code : codes) {
+        glass_answer a = all[0].lookup(table.data(), table.size(), code);
+        for (const Functions &f : all) same("look up", f.name, a, f.lookup(table.data(), table.size(), code));
+        seen["look up"][a.number]++;
+    }
+}
+
+// All that is asked of a table from anywhere.
+void asked(const Words &table, const Words &codes, Random &r) {
+    const Words before = table;
+    glass_answer a = all[0].check(table.data(), table.size());
+    for (const Functions &f : all) same("check", f.name, a, f.check(table.data(), table.size()));
+    seen["check"][a.number]++;
+
+    size_t n = table.empty() ? 0 : std::min<size_t>(table[0], 2050);
+    size_t codes_len = n + r.below(3) - (n && r.below(4) == 0), schedules_len = n + r.below(3) - (n && r.below(4) == 0);
+    const Words codes_before = lent(codes_len, r), schedules_before = lent(schedules_len, r);
+    Words first_codes, first_schedules;
+    for (const Functions &f : all) {
+        Words c = codes_before, s = schedules_before;
+        glass_answer b = f.pairs(table.data(), table.size(), c.data() + AROUND, codes_len, s.data() + AROUND, schedules_len);
+        if (&f == all) {
+            a = b, first_codes = c, first_schedules = s;
+            if (a.number && (c != codes_before || s != schedules_before)) changed("read back");
+        }
+        same("read back", f.name, a, b);
+        if (c != first_codes || s != first_schedules) differ("read back", f.name, "the lent arrays");
+    }
+    seen["read back"][a.number]++;
+
+    Words some = {0, 1, 65536, 65537, ~(uint32_t)0};
+    for (int i = 0; i < 30; i++) some.push_back(i % 2 && !codes.empty() ? codes[r.below((uint32_t)codes.size())] : r.below(65538));
+    lookups(table, some);
+
+    for (int i = 0; i < 8; i++) {
+        Words panel(i == 0 ? 64 : i == 1 ? r.below(67) : r.below(8));
+        bool good = r.below(2);
+        for (uint32_t &x : panel) {
+            if (!codes.empty() && (good || r.below(8))) x = codes[r.below((uint32_t)codes.size())];
+            else x = r.below(4) ? r.below(65538) : 65537 * r.below(2);
+        }
+        panel.reserve(1); // a pointer that is not null
+        a = all[0].panel(table.data(), table.size(), panel.data(), panel.size());
+        for (const Functions &f : all) same("panel", f.name, a, f.panel(table.data(), table.size(), panel.data(), panel.size()));
+        seen["panel"][a.number]++;
+    }
+    if (table != before) differ("check, read back, look up, panel", "one of them", "the table");
+}
+
+// A well-formed table of the list with any multipliers that fit, not the least.
+Words other_table(const Words &codes, const Words &schedules, Random &r) {
+    uint64_t n = codes.size(), k, c, start = 0;
+    std::vector<Words> blocks;
+    auto hash = [](uint64_t m, uint64_t a, uint64_t w) { return m * a % 65537 % w; };
+    do {
+        k = 1 + r.below(65536);
+        blocks.assign(n, {});
+        for (uint32_t i = 0; i < n; i++) blocks[hash(k, codes[i], n)].push_back(i);
+        c = 0;
+        for (const Words &b : blocks) c += b.size() * b.size();
+    } while (c > 3 * n - 2);
+    Words table(3 + 2 * n + 2 * c);
+    table[0] = (uint32_t)n, table[1] = (uint32_t)c, table[2] = (uint32_t)k;
+    for (uint32_t j = 0; j < n; j++) {
+        uint64_t w = blocks[j].size() * blocks[j].size(), q, at;
+        for (bool fits = false; !fits;) {
+            q = 1 + r.below(65536), fits = true;
+            std::fill_n(table.begin() + (ptrdiff_t)(3 + 2 * n + start), w, 0);
+            for (uint32_t i : blocks[j]) {
+                at = 3 + 2 * n + start + hash(q, codes[i], w);
+                fits = fits && table[at] == 0;
+                table[at] = codes[i];
+            }
+        }
+        for (uint32_t i : blocks[j]) table[3 + 2 * n + c + start + hash(q, codes[i], w)] = schedules[i];
+        table[3 + j] = (uint32_t)start, table[3 + n + j] = (uint32_t)q;
+        start += w;
+    }
+    return table;
+}
+
+// One or two words are changed, or a cell is emptied, or the words are cut or go on.
+void damage(Words &t, Random &r) {
+    uint32_t n = t[0], c = t[1];
+    for (uint32_t left = 1 + r.below(2); left > 0; left--) {
+        uint32_t size = (uint32_t)t.size(), at = r.below(4) == 0 ? r.below(3) : r.below(size);
+        switch (r.below(12)) {
+        case 0: t[at] = r.next(); break;
+        case 1: t[at] = 0; break;
+        case 2: t[at]++; break;
+        case 3: t[at]--; break;
+        case 4: t[at] = 65536 + r.below(2); break;
+        case 5: t[at] = 999 + r.below(2); break;
+        case 6: std::swap(t[at], t[r.below(size)]); break;
+        case 7: t[at] = 1 + r.below(65536); break;
+        case 8: t[at] ^= 1u << r.below(32); break;
+        case 9: // a cell is emptied, or takes another's pair
+            if (c) {
+                uint32_t i = r.below(c), u = r.below(c), first = 3 + 2 * n;
+                bool empty = r.below(2);
+                t[first + i] = empty ? 0 : t[first + u];
+                t[first + c + i] = empty ? 0 : t[first + c + u];
+            }
+            break;
+        case 10: // a start or a multiplier
+            if (n) t[3 + r.below(2 * n)] = r.below(c + 2);
+            break;
+        case 11:
+            if (r.below(2)) t.resize(r.below(size + 1));
+            else t.push_back(r.next());
+            return;
+        }
+    }
+}
+
+// A list of any shape, sometimes with a fault that the build refuses.
+List any_list(uint32_t turn, Random &r) {
+    uint32_t n = turn % 400 == 0 ? 2048 + r.below(2) : turn % 40 == 0 ? r.below(2050) : turn % 8 == 0 ? r.below(300) : r.below(40);
+    List l;
+    if (r.below(3) == 0) {
+        uint32_t step = 1 + r.below(n ? std::min(65536 / n, 4096u) : 1), first = 1 + r.below(65536 - (n ? (n - 1) * step : 0));
+        for (uint32_t i = 0; i < n; i++) l.add(first + i * step, r);
+        for (uint32_t i = 1; i < n; i++) std::swap(l.codes[i], l.codes[r.below(i + 1)]);
+    } else {
+        l = random_list(n, r);
+    }
+    uint32_t fault = r.below(12);
+    if (n && fault == 0) l.codes[r.below(n)] = r.below(2) ? 0 : 65537 + r.below(3);
+    if (n && fault <= 1) l.codes[r.below(n)] = l.codes[r.below(n)];
+    if (n && (fault == 0 || fault == 2)) l.schedules[r.below(n)] = r.below(2) ? 0 : 1000;
+    if (fault == 3) l.schedules.push_back(1);
+    return l;
+}
+
+} // namespace
+
+std::string compare_all() {
+    Random r(7);
+    const uint32_t lists = 40000;
+    uint64_t damaged = 0, other = 0, exhaustive = 0;
+    for (uint32_t turn = 0; turn < lists; turn++) {
+        List l = any_list(turn, r);
+        size_t len = GLASS_WORDS(l.codes.size());
+        if (r.below(8) == 0) len = r.below((uint32_t)len + 1);
+        if (r.below(8) == 0) len += r.below(5);
+        Words table = built(l.codes, l.schedules, len, r);
+        if (table.empty()) continue;
+        asked(table, l.codes, r);
+        if (turn % 10 == 0 && !l.codes.empty()) {
+            table = other_table(l.codes, l.schedules, r);
+            asked(table, l.codes, r);
+            other++;
+        }
+        for (int i = 0; i < 12; i++) {
+            Words t = table;
+            damage(t, r);
+            t.reserve(1);
+            asked(t, l.codes, r);
+            damaged++;
+        }
+        if (turn % 1000 == 1 || turn % 4000 == 0) {
+            Words every(65539);
+            for (uint32_t a = 0; a < every.size(); a++) every[a] = a;
+            lookups(table, every);
+            exhaustive++;
+        }
+    }
+    // words that are no table at all
+    uint64_t senseless = 0;
+    for (; senseless < 20000; senseless++) {
+        Words t(r.below(40));
+        for (uint32_t &x : t) x = r.below(3) ? r.below(6) : r.next();
+        t.reserve(1);
+        asked(t, {1, 2, 3}, r);
+    }
+
+    std::string s = grouped(lists) + " lists, " + grouped(damaged) + " damaged tables, " + grouped(other) +
+                    " well-formed tables whose multipliers are not least, " + grouped(senseless) + " runs of words that are no table; of " +
+                    grouped(exhaustive) + " tables every code from 0 to 65,538. All answers and all lent memory were equal. ";
+    s += "How often each number was answered (0: a result, 1000: absent or unknown):\n\n";
+    for (const auto &o : seen) {
+        s += "- " + o.first + ":";
+        for (const auto &a : o.second) s += " " + std::to_string(a.first) + " (" + grouped(a.second) + ")";
+        s += "\n";
+    }
+    return s;
+}

@@ -1,0 +1,428 @@
+// The benchmark: compares the answers of all structures, then times them in one process, each round all of them one after the other, and writes
+// the tables. bench/run calls it:
+//
+//   main bytes                          prints the bytes of each structure for each size; without the allocator's cache of freed memory, which it
+//                                       counts as taken
+//   main RESULTS BYTES OURS LINE...     RESULTS is the file to write, BYTES what was printed, OURS says what is linked as glass.h, each LINE goes
+//                                       into the results
+#include "compare.h"
+#include "glass.h"
+#include "gperf_bytes.h"
+#include "lists.h"
+#include "peers.h"
+
+#include <malloc.h>
+#include <sched.h>
+#include <time.h>
+
+#include <algorithm>
+#include <cstdio>
+#include <cstdlib>
+#include <cstring>
+#include <fstream>
+#include <iostream>
+#include <string>
+#include <vector>
+
+extern "C" {
+structure glass_structure(const char *);
+structure yard_structure(const char *);
+structure yardgcc_structure(const char *);
+}
+
+namespace {
+
+using std::size_t;
+using std::string;
+using Words = std::vector<uint32_t>;
+
+// A round asks in parts, and all structures one part before the next: what else the machine does meets all of them.
+enum { ROUNDS = 31, QUERIES = 65536, PARTS = 4, QUERIES_OF_PART = QUERIES / PARTS, BUILT = 16384, OTHER_BUILT = 4096 };
+
+const size_t sizes[] = {16, 256, 2048};
+enum { SIZES = 3 };
+
+enum Operation { HITS, MISSES, HALF, CHAIN, PANEL, BUILD, CHECK, PAIRS, OPERATIONS };
+const char *const operation_names[] = {"hits", "misses", "half", "chain", "panel", "build", "check", "read back"};
+const char *const kind_names[] = {"random", "arithmetic progressions", "multiples of a number", "r + 4,096 t"};
+
+// the lists of two codes that take the longest search
+struct Two {
+    const char *name;
+    uint32_t codes[2], schedules[2];
+};
+const Two twos[] = {{"{2, 6}", {2, 6}, {1, 2}}, {"{1, 5}", {1, 5}, {1, 2}}};
+enum { TWOS = 2, TWO_TIMES = 8 };
+
+// ns a query or a code, by round
+using Series = std::vector<double>;
+
+struct Results {
+    std::vector<Series> of[SIZES][OPERATIONS], structured[SIZES][KINDS], two[TWOS];
+    std::vector<double> bytes[SIZES];
+    std::vector<size_t> failed;
+};
+
+double clock_of(clockid_t clock) {
+    timespec t;
+    clock_gettime(clock, &t);
+    return 1e9 * (double)t.tv_sec + (double)t.tv_nsec;
+}
+
+// The time that the process had, in ns: what others took from it on the way is not in it.
+double now() { return clock_of(CLOCK_PROCESS_CPUTIME_ID); }
+
+void wrong(const char *who, const char *what) {
+    std::fprintf(stderr, "%s: wrong %s\n", who, what);
+    std::exit(1);
+}
+
+bool has(const structure &s, size_t n) { return s.only == 0 || s.only == n; }
+bool builds(const structure &s) { return s.build != nullptr; }
+
+// Each time another order, so that none always follows the same one.
+std::vector<size_t> order(size_t count, Random &r) {
+    std::vector<size_t> o(count);
+    for (size_t i = 0; i < count; i++) {
+        size_t at = r.below((uint32_t)i + 1);
+        o[i] = o[at], o[at] = i;
+    }
+    return o;
+}
+
+// ---- lookups
+
+// What is asked in one part of a round.
+struct Asked {
+    Words codes, answers;
+    uint64_t sum = 0, panels = 0;
+};
+
+Asked asked(const List &l, const std::vector<uint16_t> &schedule_of, Operation o, int part) {
+    Asked a;
+    Random r(((uint64_t)l.codes.size() << 32) + ((uint64_t)o << 16) + (uint64_t)part);
+    a.codes.resize(QUERIES_OF_PART), a.answers.resize(QUERIES_OF_PART);
+    for (size_t i = 0; i < QUERIES_OF_PART; i++) {
+        bool hit = o == MISSES ? false : o == HALF ? r.next() >> 31 : true;
+        uint32_t code;
+        if (hit) code = l.codes[r.below((uint32_t)l.codes.size())];
+        else do code = 1 + r.below(65536);
+            while (schedule_of[code]);
+        a.codes[i] = code, a.answers[i] = schedule_of[code];
+        a.sum += a.answers[i];
+    }
+    for (size_t i = 0; i < QUERIES_OF_PART; i += 64) a.panels += *std::max_element(&a.answers[i], &a.answers[i] + 64);
+    return a;
+}
+
+volatile uint32_t zero = 0;
+
+uint64_t run(const structure &s, const void *t, const Asked &a, Operation o) {
+    if (o == CHAIN) return s.chain(t, a.codes.data(), QUERIES_OF_PART, zero);
+    if (o == PANEL) return s.panels(t, a.codes.data(), QUERIES_OF_PART / 64);
+    return s.sum(t, a.codes.data(), QUERIES_OF_PART);
+}
+
+uint64_t expected(const Asked &a, Operation o) { return o == CHAIN ? a.answers.back() : o == PANEL ? a.panels : a.sum; }
+
+// The fixed list of a size, and its table in each structure.
+struct Tables {
+    size_t n;
+    List list;
+    std::vector<uint16_t> schedule_of;
+    std::vector<void *> tables;
+    std::vector<Words> lent;
+    const std::vector<structure> &all;
+
+    Tables(const std::vector<structure> &structures, size_t size)
+        : n(size), list(fixed_list(n)), schedule_of(65537), tables(structures.size()), lent(structures.size(), Words(GLASS_WORDS(n))),
+          all(structures) {
+        for (size_t i = 0; i < n; i++) schedule_of[list.codes[i]] = (uint16_t)list.schedules[i];
+    }
+    void build(size_t s) {
+        if (!has(all[s], n) || !builds(all[s])) return;
+        tables[s] = all[s].build(list.codes.data(), list.schedules.data(), n, lent[s].data());
+        if (!tables[s]) wrong(all[s].name, "build of the list that is asked");
+    }
+    ~Tables() {
+        for (size_t s = 0; s < all.size(); s++)
+            if (tables[s]) all[s].drop(tables[s]);
+    }
+};
+
+size_t heap() {
+    struct mallinfo2 m = mallinfo2();
+    return m.uordblks + m.hblkhd;
+}
+
+void print_bytes(const std::vector<structure> &all) {
+    for (int size = 0; size < SIZES; size++) {
+        Tables t(all, sizes[size]);
+        for (size_t s = 0; s < all.size(); s++) {
+            size_t before = heap();
+            t.build(s);
+            size_t taken = heap() - before;
+            if (t.tables[s] && all[s].bytes) taken = all[s].bytes(t.tables[s]);
+            if (!builds(all[s])) taken = has(all[s], t.n) ? gperf_bytes[size] : 0;
+            std::printf("%.2f\n", (double)taken / (double)t.n);
+        }
+    }
+}
+
+void lookups(const std::vector<structure> &all, int size, bool timed, Results &results) {
+    Tables t(all, sizes[size]);
+    for (size_t s = 0; s < all.size(); s++) t.build(s);
+    Words out(QUERIES_OF_PART);
+    Random r(11);
+    for (int round = 0; round < ROUNDS; round++)
+        for (int o = HITS; o <= PANEL; o++) {
+            std::vector<double> spent(all.size());
+            for (int part = 0; part < PARTS; part++) {
+                Asked a = asked(t.list, t.schedule_of, (Operation)o, PARTS * round + part);
+                for (size_t s : order(all.size(), r)) {
+                    if (!has(all[s], t.n)) continue;
+                    if (!timed) {
+                        all[s].answers(t.tables[s], a.codes.data(), QUERIES_OF_PART, out.data());
+                        if (out != a.answers) wrong(all[s].name, operation_names[o]);
+                    }
+                    double start = now();
+                    uint64_t got = run(all[s], t.tables[s], a, (Operation)o);
+                    spent[s] += now() - start;
+                    if (got != expected(a, (Operation)o)) wrong(all[s].name, operation_names[o]);
+                }
+            }
+            for (size_t s = 0; timed && s < all.size(); s++)
+                if (has(all[s], t.n)) results.of[size][o][s].push_back(spent[s] / QUERIES);
+        }
+}
+
+// ---- build, check, read back
+
+// The lists of one round, and their pairs by rising code.
+struct Lists {
+    std::vector<List> lists, sorted;
+};
+
+Lists lists_of(Kind kind, size_t n, size_t codes, int round) {
+    Lists ls;
+    Random r(((uint64_t)n << 32) + ((uint64_t)(100 + kind) << 16) + (uint64_t)round);
+    for (size_t i = 0; i < codes / n; i++) {
+        List l = list_of(kind, n, r), s;
+        std::vector<std::pair<uint32_t, uint32_t>> p;
+        for (size_t u = 0; u < n; u++) p.emplace_back(l.codes[u], l.schedules[u]);
+        std::sort(p.begin(), p.end());
+        for (auto &x : p) s.codes.push_back(x.first), s.schedules.push_back(x.second);
+        ls.lists.push_back(l), ls.sorted.push_back(s);
+    }
+    return ls;
+}
+
+// Brings what a build reads and writes near, whoever was there before.
+uint32_t touch(const List &l, Words &lent) {
+    uint32_t x = 0;
+    for (size_t i = 0; i < l.codes.size(); i++) x ^= l.codes[i] ^ l.schedules[i];
+    for (uint32_t &w : lent) w = x;
+    return x;
+}
+
+// Fresh lists, some at a time, so that few tables are there at once. The first `count` structures take part: all, or ours and the yardstick's.
+void builds_of(const std::vector<structure> &all, size_t count, Kind kind, int size, size_t codes, bool timed, Results &results) {
+    size_t n = sizes[size], at_once = std::max<size_t>(1, 4096 / n);
+    std::vector<void *> tables(at_once);
+    std::vector<Words> lent(at_once, Words(GLASS_WORDS(n)));
+    Words out_codes(n), out_schedules(n);
+    Random r(13);
+    for (int round = 0; round < ROUNDS; round++) {
+        Lists ls = lists_of(kind, n, codes, round);
+        std::vector<double> build(count), check(count), pairs(count);
+        for (size_t from = 0; from < ls.lists.size(); from += at_once) {
+            size_t here = std::min(at_once, ls.lists.size() - from);
+            for (size_t s : order(count, r)) {
+                const structure &it = all[s];
+                if (!builds(it)) continue;
+                for (size_t u = 0; u < here; u++) touch(ls.lists[from + u], lent[u]);
+                double t0 = now();
+                for (size_t u = 0; u < here; u++) {
+                    const List &l = ls.lists[from + u];
+                    tables[u] = it.build(l.codes.data(), l.schedules.data(), n, lent[u].data());
+                }
+                double t1 = now();
+                size_t got = 0, gone = 0, bad = 0;
+                for (size_t u = 0; u < here; u++) {
+                    if (!tables[u]) gone++;
+                    else got += it.pairs(tables[u], out_codes.data(), out_schedules.data());
+                    const List &l = ls.sorted[from + u];
+                    if (!timed && tables[u] && (out_codes != l.codes || out_schedules != l.schedules)) wrong(it.name, "pairs");
+                }
+                double t2 = now();
+                if (it.check)
+                    for (size_t u = 0; u < here; u++) bad |= it.check(tables[u]);
+                double t3 = now();
+                if (got != (here - gone) * n || bad) wrong(it.name, "check or read back");
+                for (size_t u = 0; u < here; u++)
+                    if (tables[u]) it.drop(tables[u]);
+                build[s] += t1 - t0, pairs[s] += t2 - t1, check[s] += t3 - t2;
+                if (timed) results.failed[s] += gone;
+            }
+        }
+        if (!timed) continue;
+        double all_codes = (double)(ls.lists.size() * n);
+        for (size_t s = 0; s < count; s++) {
+            if (!builds(all[s])) continue;
+            results.structured[size][kind][s].push_back(build[s] / all_codes);
+            if (kind != RANDOM) continue;
+            results.of[size][BUILD][s].push_back(build[s] / all_codes);
+            results.of[size][PAIRS][s].push_back(pairs[s] / all_codes);
+            if (all[s].check) results.of[size][CHECK][s].push_back(check[s] / all_codes);
+        }
+    }
+}
+
+void builds_of_two(const std::vector<structure> &all, size_t count, Results &results) {
+    uint32_t lent[GLASS_WORDS(2)];
+    Random r(17);
+    for (int round = 0; round < ROUNDS; round++)
+        for (int two = 0; two < TWOS; two++)
+            for (size_t s : order(count, r)) {
+                double t = now();
+                for (int u = 0; u < TWO_TIMES; u++)
+                    if (!all[s].build(twos[two].codes, twos[two].schedules, 2, lent)) wrong(all[s].name, twos[two].name);
+                results.two[two][s].push_back((now() - t) / (2 * TWO_TIMES));
+            }
+}
+
+// ---- the tables
+
+double part(Series s, double p) {
+    std::sort(s.begin(), s.end());
+    return s[(size_t)(p * (double)(s.size() - 1))];
+}
+
+string number(double x) {
+    char b[32];
+    std::snprintf(b, sizeof b, x < 10 ? "%.2f" : x < 100 ? "%.1f" : "%.0f", x);
+    return b;
+}
+
+// the 20th percentile, and the median of ours / other
+string cell(const std::vector<Series> &of, size_t s) {
+    if (of[s].empty()) return "-";
+    string c = number(part(of[s], 0.2));
+    if (s == 0) return c;
+    Series ratios;
+    for (size_t i = 0; i < of[s].size(); i++) ratios.push_back(of[0][i] / of[s][i]);
+    char b[32];
+    std::snprintf(b, sizeof b, " (%.2f)", part(ratios, 0.5));
+    return c + b;
+}
+
+string processor() {
+    std::ifstream f("/proc/cpuinfo");
+    for (string line; std::getline(f, line);)
+        if (line.compare(0, 10, "model name") == 0) return line.substr(line.find(':') + 2);
+    return "unknown";
+}
+
+string report(const std::vector<structure> &all, const Results &results, const string &compared, double load, int argc, char **argv) {
+    char date[64], loads[64];
+    time_t t = time(nullptr);
+    strftime(date, sizeof date, "%Y-%m-%d", localtime(&t));
+    double load_now = 0;
+    getloadavg(&load_now, 1);
+    std::snprintf(loads, sizeof loads, "%.1f at the start, %.1f at the end", load, load_now);
+    string s = "# What the benchmark measured\n\nWritten by `bench/run`; bench/README.md says how to read it.\n\n";
+    s += "- Processor: " + processor() + ". Date: " + date + ". Load average: " + loads + ".\n";
+    s += string("- Ours: ") + argv[3] + ".\n";
+    for (int i = 4; i < argc; i++) s += string("- ") + argv[i] + ".\n";
+    s += "- " + grouped(ROUNDS) + " rounds of " + grouped(QUERIES) + " queries, and of " + grouped(BUILT) +
+         " codes in fresh lists. A figure is the 20th percentile of the rounds, in ns a query (hits, misses, half, chain), a code of a panel, "
+         "or a code of the table (build, check, read back). In brackets the median of ours / other: below 1 ours is faster.\n";
+    for (int size = 0; size < SIZES; size++) {
+        size_t n = sizes[size];
+        s += "\n## " + grouped(n) + " codes\n\n|";
+        for (const char *o : operation_names) s += string(" | ") + o;
+        s += " | bytes a code |\n|---|";
+        for (int o = 0; o <= OPERATIONS; o++) s += "---|";
+        s += "\n";
+        for (size_t i = 0; i < all.size(); i++) {
+            if (!has(all[i], n)) continue;
+            s += string("| ") + all[i].name;
+            for (int o = 0; o < OPERATIONS; o++) s += " | " + cell(results.of[size][o], i);
+            s += " | " + number(results.bytes[size][i]) + " |\n";
+        }
+    }
+    s += "\n## Build, by the shape of the list\n\n| list | codes";
+    for (size_t i = 0; i < 3; i++) s += string(" | ") + all[i].name;
+    s += " |\n|---|---|---|---|---|\n";
+    auto row = [&](const char *name, size_t n, const std::vector<Series> &of) {
+        s += string("| ") + name + " | " + grouped(n);
+        for (size_t i = 0; i < 3; i++) s += " | " + cell(of, i);
+        s += " |\n";
+    };
+    for (int kind = 0; kind < KINDS; kind++)
+        for (int size = 0; size < SIZES; size++) row(kind_names[kind], sizes[size], results.structured[size][kind]);
+    for (int two = 0; two < TWOS; two++) row(twos[two].name, 2, results.two[two]);
+    s += "\n## Compared before anything was timed\n\n" + compared;
+    s += "\nAll structures gave the same answers to every query that was timed, and read back the same pairs.";
+    size_t lists = 0;
+    for (size_t n : sizes) lists += ROUNDS * (BUILT / n);
+    for (size_t i = 0; i < all.size(); i++)
+        if (results.failed[i])
+            s += string(" ") + all[i].name + ": no hash found for " + grouped(results.failed[i]) + " of " + grouped(lists) + " lists.";
+    return s + "\n";
+}
+
+} // namespace
+
+int main(int argc, char **argv) {
+    std::vector<structure> all = {glass_structure("ours"), yard_structure("C, same format (clang)"), yardgcc_structure("C, same format (gcc)")};
+    const size_t same_format = all.size();
+    for (const structure &s : peers()) all.push_back(s);
+    if (argc == 2 && !std::strcmp(argv[1], "bytes")) return print_bytes(all), 0;
+    if (argc < 4) return 2;
+    double load = 0;
+    getloadavg(&load, 1);
+    // one processor, the last that is allowed
+    cpu_set_t cpus;
+    if (sched_getaffinity(0, sizeof cpus, &cpus) == 0) {
+        int last = CPU_SETSIZE - 1;
+        while (last > 0 && !CPU_ISSET(last, &cpus)) last--;
+        CPU_ZERO(&cpus);
+        CPU_SET(last, &cpus);
+        sched_setaffinity(0, sizeof cpus, &cpus);
+    }
+
+    Results results;
+    std::ifstream bytes(argv[2]);
+    results.failed.resize(all.size());
+    for (int size = 0; size < SIZES; size++) {
+        for (auto &o : results.of[size]) o.resize(all.size());
+        for (auto &o : results.structured[size]) o.resize(all.size());
+        results.bytes[size].resize(all.size());
+        for (double &b : results.bytes[size]) bytes >> b;
+    }
+    if (!bytes) wrong(argv[2], "bytes");
+    for (auto &o : results.two) o.resize(all.size());
+
+    double t = clock_of(CLOCK_MONOTONIC);
+    auto step = [&t](const char *what) {
+        double end = clock_of(CLOCK_MONOTONIC);
+        std::fprintf(stderr, "%5.1f s  %s\n", (end - t) / 1e9, what);
+        t = end;
+    };
+    string compared = compare_all();
+    step("ours and the yardstick compared");
+    for (int timed = 0; timed < 2; timed++) {
+        for (int size = 0; size < SIZES; size++) lookups(all, size, timed, results);
+        step(timed ? "lookups and panels timed" : "lookups and panels compared");
+        for (int size = 0; size < SIZES; size++) builds_of(all, all.size(), RANDOM, size, BUILT, timed, results);
+        for (int kind = PROGRESSION; kind < KINDS; kind++)
+            for (int size = 0; size < SIZES; size++) builds_of(all, same_format, (Kind)kind, size, OTHER_BUILT, timed, results);
+        step(timed ? "builds, checks and read backs timed" : "builds, checks and read backs compared");
+    }
+    builds_of_two(all, same_format, results);
+    string s = report(all, results, compared, load, argc, argv);
+    std::ofstream(argv[1]) << s;
+    std::cout << s;
+    return std::cout ? 0 : 1;
+}
