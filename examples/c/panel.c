@@ -1,0 +1,30 @@
+/* Builds the table of a small list, looks codes up, and prints what it finds. */
+#include <stdio.h>
+
+#include "glass.h"
+
+int main(void)
+{
+    const uint32_t codes[] = {4, 7, 8, 17, 20};
+    const uint32_t schedules[] = {11, 12, 13, 14, 15};
+    uint32_t words[GLASS_WORDS(5)];
+    const uint32_t panel[] = {7, 17, 4};
+
+    glass_answer built = glass_build(codes, 5, schedules, 5, words, GLASS_WORDS(5));
+    if (built.number != 0) {
+        printf("refused %u %u\n", built.number, built.value);
+        return 1;
+    }
+    printf("built %u words\n", built.value);
+    for (uint32_t code = 16; code <= 17; code++) {
+        glass_answer found = glass_lookup(words, built.value, code);
+        if (found.number == 0)
+            printf("code %u: schedule %u\n", code, found.value);
+        else if (found.number == GLASS_ABSENT)
+            printf("code %u: absent\n", code);
+        else
+            printf("code %u: refused %u\n", code, found.number);
+    }
+    printf("panel of 7, 17 and 4: schedule %u\n", glass_panel(words, built.value, panel, 3).value);
+    return 0;
+}
