@@ -2,7 +2,7 @@
 ghost use Prim.Native.Nat.{_<_};
 ghost use Rattle.hash.specs.Contract.{Hashed};
 
-// The place of code a among w places under multiplier k. The product is taken in 64 bits: two words of 32 bits can reach 2^64.
+// The place of code a among w places under multiplier k. The product is taken in 64 bits, which hold that of any two words.
 pub fn hash(p: u32, k: u32, w: u32, a: u32) -> u32
     requires { ⌜ (0 < p) × (0 < w) ⌝ }
     ensures { λ r. ⌜ Hashed p k w a r ⌝ }

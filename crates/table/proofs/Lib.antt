@@ -3,3 +3,8 @@
 pub mod Laws
 pub mod First
 pub mod Refusals
+-- What several proofs cite: how a definition's tests are decided and what sizes that pass them tell, the steps of a lookup, and those of a
+-- panel's walk.
+pub mod Laws
+pub mod Steps
+pub mod Walk
