@@ -1,10 +1,7 @@
--- What several proofs cite: how a definition's tests are decided, what sizes that pass them tell, the first index of which a test holds,
--- and refusals one below the other.
+-- What several proofs cite: how a definition's tests are decided and what sizes that pass them tell, the first index of which a test holds,
+-- refusals one below the other, the steps of a lookup, and those of a panel's walk.
 pub mod Laws
 pub mod First
 pub mod Refusals
--- What several proofs cite: how a definition's tests are decided and what sizes that pass them tell, the steps of a lookup, and those of a
--- panel's walk.
-pub mod Laws
 pub mod Steps
 pub mod Walk
