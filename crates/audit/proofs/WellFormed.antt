@@ -47,7 +47,7 @@ pub accepted-or-refused : (p limit : ℕ) (words : List ℕ) → Settled (codeCo
 unfolding checkOf tests
 accepted-or-refused p limit words = refusals-settled (tests p limit words) (codeCount words ∷ total words ∷ [])
 
-cells-hold : (p limit : ℕ) (words : List ℕ) → WellFormed p limit words → tooManyCells words ≡ false
+pub cells-hold : (p limit : ℕ) (words : List ℕ) → WellFormed p limit words → tooManyCells words ≡ false
 cells-hold p limit words f =
     elim (ℕ-discrete (codeCount words) 0) [
       | yes e ↦ rw (eq-eqb (codeCount words) 0 e) (le-ltb 0 (cellCount words) (omega (arith, f .no-cells e)))

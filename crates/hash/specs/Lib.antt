@@ -1,4 +1,4 @@
--- In reading order: the hash function and the least multiplier, what its code promises, and what is proved of them.
+-- In reading order: the hash function and the least multiplier, what is proved of them, and the contract of the one function.
 pub mod Hash
-pub mod Contract
 pub mod Theorems
+pub mod Contract

@@ -6,7 +6,7 @@ use mathlib.Core.Path.{subst, _∙_}
 use native.Mathlib.Nat.{le-antisymm}
 use native.Mathlib.Omega.{arith}
 use borrow.Author.Needs.{needs}
-use Rattle.hash.proofs.Product.{product-lt}
+use Rattle.hash.proofs.Words.{product-lt}
 use Rattle.table.specs.Words.{codeCount, cellCount}
 use Rattle.audit.proofs.Bounds.{cells-le, total-le}
 use Rattle.audit.proofs.Survey.{Surveyed, Turn, surveyed-none, surveyed-found, surveyed-next, surveyed-all, surveyed-codes, part-within, part-codes}

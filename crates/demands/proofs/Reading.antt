@@ -1,0 +1,101 @@
+-- What is proved of tables from anywhere, for any prime and limit: the pairs read from a well-formed table are a valid list, by rising code, and
+-- are listed exactly where a lookup finds them. A pair stands in the list of pairs where it stands in the lists of codes and schedules.
+-- Assumes nothing.
+use Prim.Native.Nat.{ℕ, zero, suc, _<_, _≤_}
+use native.Mathlib.Omega.{arith}
+use mathlib.Core.List.{List, [], _∷_, List·Memᴰ, List·Memᴰ·head, List·Memᴰ·tail}
+use mathlib.Core.Logic.{_↔_}
+use mathlib.Core.Path.{_≡_, refl, sym, ap, _∙_}
+use borrow.Author.Tests.{le-ltb}
+use lib.ListN.{length, getD, length-map}
+use Rattle.table.specs.Answers.{given}
+use Rattle.table.specs.Words.{codeCount}
+use Rattle.table.specs.Lookup.{lookupOf}
+use Rattle.audit.specs.Check.{checkOf}
+use Rattle.audit.specs.WellFormed.{WellFormed}
+use Rattle.audit.specs.Pairs.{Pair, codesOf, schedulesOf, pairsIn, pairsOf}
+use Rattle.audit.proofs.WellFormed.{check-exactly}
+use Rattle.audit.proofs.PairLaws as Pairs
+use Rattle.demands.specs.Lists.{Valid, Listed}
+use Rattle.demands.specs.Theorems.{Reading}
+use Rattle.demands.proofs.Settle.{lookedAt-eight, settle}
+
+-- ---- a pair of a list, by index and by membership
+
+pub mem-listed : {xs : List Pair} {r : Pair} → List·Memᴰ r xs → Listed (codesOf xs) (schedulesOf xs) (r .code) (r .schedule)
+mem-listed (List·Memᴰ·head e) =
+    record {
+      index = 0;
+      in-list = omega arith;
+      code-there = ap (λ (x : Pair). x .code) (sym e);
+      schedule-there = ap (λ (x : Pair). x .schedule) (sym e);
+    }
+mem-listed (List·Memᴰ·tail m) =
+    let l = mem-listed m in
+    record {
+      index = suc (l .index);
+      in-list = omega (arith, l .in-list);
+      code-there = l .code-there;
+      schedule-there = l .schedule-there;
+    }
+
+pub listed-mem :
+    (xs : List Pair) {a s : ℕ} → Listed (codesOf xs) (schedulesOf xs) a s → List·Memᴰ (record { code = a; schedule = s }) xs
+listed-mem xs {a} {s} l = go xs (l .index) (l .in-list) (l .code-there) (l .schedule-there)
+  where
+    go :
+        (xs : List Pair) (i : ℕ) → i < length (codesOf xs) → getD (codesOf xs) i 0 ≡ a → getD (schedulesOf xs) i 0 ≡ s
+        → List·Memᴰ (record { code = a; schedule = s }) xs
+    go [] i l code schedule = absurd (omega arith)
+    go (x ∷ xs) zero l code schedule = List·Memᴰ·head (λ i. record { code = sym code i; schedule = sym schedule i })
+    go (x ∷ xs) (suc i) l code schedule = List·Memᴰ·tail (go xs i (omega arith) code schedule)
+
+-- ---- the pairs of a table
+
+module _ {p limit : ℕ} {words : List ℕ} (f : WellFormed p limit words) where
+  pub pairs-number : length (codesOf (pairsIn words)) ≡ codeCount words
+  pairs-number = length-map (pairsIn words) (λ (r : Pair). r .code) ∙ Pairs.pairs-length f
+
+  pub pairs-exactly :
+      (a s : ℕ)
+      → (lookupOf p limit words a ≡ given (s ∷ [])) ↔ Listed (codesOf (pairsIn words)) (schedulesOf (pairsIn words)) a s
+  pairs-exactly a s = (λ e. mem-listed (Pairs.found-pairs f e), λ l. Pairs.pairs-found f (listed-mem (pairsIn words) l))
+
+  -- so they can be built from again
+  pub pairs-valid : Valid p limit (codesOf (pairsIn words)) (schedulesOf (pairsIn words))
+  pairs-valid =
+      record {
+        parallel =
+            length-map (pairsIn words) (λ (r : Pair). r .schedule) ∙ sym (length-map (pairsIn words) (λ (r : Pair). r .code));
+        few = omega (arith, pairs-number, f .few-codes);
+        codes-valid = Pairs.pairs-codes f;
+        schedules-from-one = λ i l. Pairs.pair-schedule f (at i l) .0;
+        schedules-to-999 = λ i l. Pairs.pair-schedule f (at i l) .1;
+      }
+    where
+      at :
+          (i : ℕ) → i < length (codesOf (pairsIn words))
+          → List·Memᴰ
+          (record { code = getD (codesOf (pairsIn words)) i 0; schedule = getD (schedulesOf (pairsIn words)) i 0 })
+          (pairsIn words)
+      at i l = listed-mem (pairsIn words) (record { index = i; in-list = l; code-there = refl; schedule-there = refl })
+
+-- an accepted table is read back
+pub read-back :
+    (p limit : ℕ) (words codes schedules values : List ℕ) → checkOf p limit words ≡ given values → codeCount words ≤ length codes
+    → codeCount words ≤ length schedules → pairsOf p limit words codes schedules ≡ given (codeCount words ∷ [])
+unfolding pairsOf
+read-back p limit words codes schedules values e hc hs =
+    rw (e, le-ltb (length codes) (codeCount words) hc, le-ltb (length schedules) (codeCount words) hs)
+
+pub reading : Reading
+reading =
+    record {
+      check-exactly = check-exactly 65537 2048;
+      read-back = λ words codes schedules e. read-back 65537 2048 words codes schedules _ e;
+      pairs-number = λ words e. pairs-number (check-exactly 65537 2048 words .0 e);
+      pairs-rise = λ words e. Pairs.pairs-rise (check-exactly 65537 2048 words .0 e);
+      pairs-exactly = λ words e. pairs-exactly (check-exactly 65537 2048 words .0 e);
+      eight-at-most = lookedAt-eight 65537;
+      eight-settle = settle 65537 2048;
+    }

@@ -1,0 +1,3 @@
+-- What the statements speak of, and the statements.
+pub mod Lists
+pub mod Theorems

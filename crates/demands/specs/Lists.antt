@@ -1,0 +1,57 @@
+-- What the theorems speak of: valid lists, other orders of a list, the right answer to a code, and the words that settle it.
+use Prim.Native.Nat.{ℕ, _+_, _*_, _-_, _<_, _≤_}
+use mathlib.Core.Bool.{cond}
+use mathlib.Core.List.{List, [], _∷_, _++_}
+use mathlib.Core.Path.{_≡_}
+use lib.Dec.{eqb, ltb}
+use lib.ListN.{length, getD}
+use Rattle.hash.specs.Hash.{Codes}
+use Rattle.table.specs.Answers.{Answer, given, absent}
+use Rattle.table.specs.Words.{codeCount, cellCount, blockStart, blockEnd, blockOf, ownCell}
+
+-- a list of pairs: at most `limit`, different codes from 1 to p - 1, each with a schedule from 1 to 999
+pub record Valid (p limit : ℕ) (codes schedules : List ℕ) : Type 0 where
+  pub parallel : length schedules ≡ length codes
+  pub few : length codes ≤ limit
+  pub codes-valid : Codes p codes
+  pub schedules-from-one : (i : ℕ) → i < length codes → 1 ≤ getD schedules i 0
+  pub schedules-to-999 : (i : ℕ) → i < length codes → getD schedules i 0 ≤ 999
+
+-- a pair stands in a list
+pub record Listed (codes schedules : List ℕ) (a s : ℕ) : Type 0 where
+  pub index : ℕ
+  pub in-list : index < length codes
+  pub code-there : getD codes index 0 ≡ a
+  pub schedule-there : getD schedules index 0 ≡ s
+
+-- another order of the same pairs: each of the two lists has exactly the other's pairs
+pub record SamePairs (codes schedules codes′ schedules′ : List ℕ) : Type 0 where
+  pub there : (a s : ℕ) → Listed codes schedules a s → Listed codes′ schedules′ a s
+  pub back : (a s : ℕ) → Listed codes′ schedules′ a s → Listed codes schedules a s
+
+-- the right answer to a code: found with its listed schedule if it is listed, otherwise absent
+unfoldable pub rightAnswer : List ℕ → List ℕ → ℕ → Answer
+rightAnswer [] schedules a = absent
+rightAnswer (x ∷ codes) [] a = absent
+rightAnswer (x ∷ codes) (s ∷ schedules) a = cond (eqb x a) (given (s ∷ [])) (rightAnswer codes schedules a)
+
+-- words that are enough for any list of n pairs: 8n - 1, and 3 for none
+unfoldable pub enough : ℕ → ℕ
+enough n = cond (eqb n 0) 3 (8 * n - 1)
+
+-- two runs of words agree at these positions
+abbrev pub AgreeAt : List ℕ → List ℕ → List ℕ → Type 0
+AgreeAt positions words other = (i : ℕ) → i < length positions → getD other (getD positions i 0) 0 ≡ getD words (getD positions i 0) 0
+
+-- the words that a lookup depends on: n, c, k; the start of the code's block, its end and its q; the code and the schedule of one cell
+unfoldable pub lookedAt : ℕ → List ℕ → ℕ → List ℕ
+unfolding blockOf ownCell
+lookedAt p words code =
+    (0 ∷ 1 ∷ 2 ∷ [])
+    ++ (cond (eqb (codeCount words) 0) []
+    ((3 + blockOf p words code)
+    ∷ cond (eqb (blockOf p words code + 1) (codeCount words)) 1 (3 + (blockOf p words code + 1))
+    ∷ (3 + codeCount words + blockOf p words code)
+    ∷ cond (ltb (blockStart words (blockOf p words code)) (blockEnd words (blockOf p words code)))
+    ((3 + 2 * codeCount words + ownCell p words code) ∷ (3 + 2 * codeCount words + cellCount words + ownCell p words code) ∷ [])
+    []))

@@ -1,0 +1,2 @@
+-- What insert and remove answer, and the words that they leave.
+pub mod Edit

@@ -1,0 +1,1 @@
+// Put in, take out.
