@@ -1,13 +1,12 @@
 -- The blocks of a table whose starts rise follow one another from cell 0 to cell c. So a code is in its own cell exactly where the cell's block
 -- is its block, and the cell's place is its place there: a block without cells has none of these places.
 -- Assumes nothing.
-use Prim.Native.Nat.{ℕ, zero, suc, _+_, _*_, _-_, _%_, _<_, _≤_, zero-le}
-use mathlib.Core.Bool.{Bool, true, false, cond, not, _&&_, _||_}
-use mathlib.Core.List.{List, _++_}
-use mathlib.Core.Logic.{⊎-elim}
-use mathlib.Core.Path.{_≡_, refl, sym, ap, subst, _∙_}
-use native.Mathlib.Decide.{ℕ-discrete, decLt, decLe}
-use native.Mathlib.Nat.{mod-lt, le-antisymm}
+use Prim.Native.Nat.{ℕ, zero, suc, _+_, _*_, _-_, _<_, _≤_, zero-le}
+use mathlib.Core.Bool.{Bool, cond, not, _&&_, _||_}
+use mathlib.Core.List.{List}
+use mathlib.Core.Path.{_≡_, refl, sym, ap, _∙_}
+use native.Mathlib.Decide.{ℕ-discrete, decLt}
+use native.Mathlib.Nat.{le-antisymm}
 use native.Mathlib.Numerals.{add-one}
 use native.Mathlib.Omega.{arith}
 use borrow.Author.Tests.{eq-eqb, ne-eqb}
@@ -15,13 +14,10 @@ use lib.Dec.{eqb}
 use lib.ListN.{length, getD, take, drop, length-drop}
 use lib.Seq.{getD-take, getD-drop, length-take-le}
 use Rattle.hash.specs.Hash.{hashOf}
+use Rattle.hash.proofs.Counting.{hash-lt}
 use Rattle.table.specs.Words.{codeCount, cellCount, multiplier, total, blockStart, blockEnd, blockMultiplier, cellCode, blockOf, cellIn, ownCell}
 use Rattle.audit.specs.Check.{misplaced, blockCodes}
 use Rattle.audit.specs.Blocks.{Starts, strange, strangeAt}
-
-hash-lt : (p k w a : ℕ) → 0 < w → hashOf p k w a < w
-unfolding hashOf
-hash-lt p k w a l = mod-lt ((k * a) % p) l
 
 pub block-lt : (p : ℕ) (words : List ℕ) (a : ℕ) → 0 < codeCount words → blockOf p words a < codeCount words
 unfolding blockOf

@@ -1,18 +1,17 @@
 -- What the tests 16 to 20 of a check tell, each as the fact that it rules out.
 -- Assumes nothing.
 use Prim.Native.Nat.{ℕ, zero, suc, _+_, _*_, _-_, _<_, _≤_}
-use mathlib.Core.Bool.{Bool, true, false, cond, not, _&&_, _||_, Bool·beq, false≢true}
+use mathlib.Core.Bool.{Bool, true, false, cond, not, Bool·beq, false≢true}
 use mathlib.Core.List.{List}
-use mathlib.Core.Logic.{_↔_, ⊎-elim}
-use mathlib.Core.Path.{_≡_, refl, sym, ap, subst, _∙_}
+use mathlib.Core.Logic.{_↔_}
+use mathlib.Core.Path.{_≡_, refl, ap}
 use native.Mathlib.Decide.{ℕ-discrete}
 use native.Mathlib.Nat.{add-sub-cancel}
 use native.Mathlib.Numerals.{add-one}
 use native.Mathlib.Omega.{arith}
 use borrow.Author.Tests.{eqb-true, eqb-false, ltb-false, not-false, eq-eqb, ne-eqb, le-ltb}
 use lib.Dec.{eqb, ltb}
-use lib.ListN.{length, getD}
-use Rattle.table.specs.Words.{codeCount, cellCount, multiplier, blockStart, blockEnd, blockMultiplier, cellCode, cellSchedule, blockOf, ownCell}
+use Rattle.table.specs.Words.{codeCount, cellCount, blockStart, blockEnd, blockMultiplier, cellCode, cellSchedule, blockOf, ownCell}
 use Rattle.table.proofs.Laws.{or-false, within}
 use Rattle.table.proofs.First.{Below}
 use Rattle.audit.specs.Check.{badStart, badBlockMultiplier, badCell, misplaced, badSquare, codesIn, blockCodes}

@@ -1,21 +1,21 @@
 -- One pass over the blocks of a table: before block j no code of a cell before it is misplaced, the first block before it of the wrong size is
 -- known, and the codes before it are counted.
 -- Assumes nothing.
-use Prim.Native.Nat.{ℕ, suc, _+_, _*_, _-_, _<_, _≤_}
-use mathlib.Core.Bool.{Bool, true, false, cond, not}
+use Prim.Native.Nat.{ℕ, _+_, _*_, _-_, _<_, _≤_}
+use mathlib.Core.Bool.{Bool, false, not}
 use mathlib.Core.List.{List}
 use mathlib.Core.Path.{_≡_, refl, sym, ap, subst, _∙_}
 use native.Mathlib.Decide.{decLt}
 use native.Mathlib.Nat.{add-sub-of-le}
 use native.Mathlib.Omega.{arith}
 use borrow.Author.Tests.{lt-ltb, le-ltb}
-use lib.Dec.{eqb, ltb}
+use lib.Dec.{eqb}
 use lib.ListN.{length, take, drop, length-take}
 use lib.Seq.{drop-drop}
 use Rattle.table.specs.Answers.{refused, firstOf}
 use Rattle.table.specs.Words.{codeCount, cellCount, multiplier, total, blockStart, blockEnd, blockMultiplier}
 use Rattle.table.proofs.First.{Below, First, first-is, first-found, first-none, first-next}
-use Rattle.audit.specs.Check.{misplaced, badSquare, codesIn, blockCodes, allCodes}
+use Rattle.audit.specs.Check.{misplaced, badSquare, codesIn, blockCodes}
 use Rattle.audit.specs.Checked.{fromSquares, fromPlaces}
 use Rattle.audit.specs.Blocks.{Starts, strangeAt, firstNext, PartRead}
 use Rattle.audit.specs.declared.check.Part.{Part}

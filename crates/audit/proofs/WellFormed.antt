@@ -1,22 +1,22 @@
 -- A check accepts exactly the well-formed tables, and gives nothing else than n and the total of one.
 -- Assumes nothing.
-use Prim.Native.Nat.{ℕ, _+_, _*_, _-_, _<_, _≤_}
-use mathlib.Core.Bool.{Bool, true, false, not}
+use Prim.Native.Nat.{ℕ, _*_, _-_, _<_}
+use mathlib.Core.Bool.{Bool, false, not}
 use mathlib.Core.List.{List, [], _∷_}
 use mathlib.Core.Logic.{_↔_}
-use mathlib.Core.Path.{_≡_, refl, sym, _∙_}
+use mathlib.Core.Path.{_≡_, refl}
 use native.Mathlib.Decide.{ℕ-discrete}
 use native.Mathlib.Omega.{arith}
 use borrow.Author.Tests.{ltb-false, eqb-true, not-false, eq-eqb, ne-eqb, le-ltb}
 use lib.Dec.{eqb, ltb}
 use lib.ListN.{length}
-use Rattle.table.specs.Answers.{Answer, given, firstOf}
+use Rattle.table.specs.Answers.{given, firstOf}
 use Rattle.table.specs.Words.{codeCount, cellCount, multiplier, total}
 use Rattle.table.specs.Lookup.{tooManyCodes, tooManyCells, badMultiplier, tooShort}
 use Rattle.table.specs.Sized.{Sized}
 use Rattle.table.proofs.Laws.{sized-by}
-use Rattle.table.proofs.First.{Below, none-refused}
-use Rattle.table.proofs.Refusals.{Refusal, refusals, Passed, Settled, refusals-pass, refusals-given, refusals-settled}
+use Rattle.table.proofs.First.{none-refused}
+use Rattle.table.proofs.Refusals.{Refusal, Passed, Settled, refusals-pass, refusals-given, refusals-settled}
 use Rattle.audit.specs.Check.{checkOf, badStart, badBlockMultiplier, badCell, misplaced, badSquare, codesIn, allCodes}
 use Rattle.audit.specs.WellFormed.{WellFormed}
 use Rattle.audit.specs.Blocks.{Starts}

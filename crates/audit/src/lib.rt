@@ -1,6 +1,6 @@
 // Check, and reading an accepted table back.
-pub mod blocks;
+mod blocks;
 pub mod check;
-pub mod conditions;
+mod conditions;
 pub mod pairs;
-pub mod sorting;
+mod sorting;

@@ -3,7 +3,6 @@ ghost use Prim.Native.Nat.{_<_};
 ghost use Rattle.hash.specs.Contract.{Hashed};
 
 // The place of code a among w places: ((k × a) mod p) mod w.
-// The place of code a among w places under multiplier k. The product is taken in 64 bits, which hold that of any two words.
 pub fn hash(p: u32, k: u32, w: u32, a: u32) -> u32
     requires { ⌜ 0 < p ⌝ }
     requires { ⌜ 0 < w ⌝ }

@@ -1,6 +1,6 @@
 -- `audit::blocks::first_next` meets its contract. Assumes nothing.
-use borrow.Author.Needs.{needs}
 use native.Mathlib.Numerals.{add-one}
+use borrow.Author.Needs.{needs}
 use Rattle.table.proofs.Laws.{tests}
 use Rattle.audit.proofs.blocks.first_next.Statement.{statement}
 use Rattle.audit.proofs.blocks.first_next.Tie as tie

@@ -1,3 +1,6 @@
+-- `audit::blocks::test_block` meets its contract. The loop's invariant: the codes before t are counted and placed. The measure is what is left
+-- of the part.
+-- Assumes nothing.
 use Prim.Native.Nat.{ℕ, _+_, _-_, _≤_}
 use mathlib.Core.List.{List}
 use mathlib.Core.Path.{_≡_, refl, sym, ap, _∙_}
@@ -6,9 +9,9 @@ use native.Mathlib.Omega.{arith}
 use borrow.Author.Needs.{needs}
 use lib.ListN.{length, drop}
 use Rattle.table.specs.Answers.{firstOf}
+use Rattle.table.proofs.First.{first-next}
 use Rattle.audit.specs.Check.{codesIn}
 use Rattle.audit.specs.Blocks.{strange, strangeAt}
-use Rattle.table.proofs.First.{first-next}
 use Rattle.audit.proofs.Counting.{codes-from, codes-le, codes-end}
 use Rattle.audit.proofs.blocks.test_block.Statement.{statement}
 use Rattle.audit.proofs.blocks.test_block.Tie as tie
@@ -25,42 +28,15 @@ Inv-loop p k n j q part w first₀ codes₀ t₀ first codes t = Inv p k n j q p
 abbrev μ-loop : tie.MeasureT-loop
 μ-loop p k n j q part w first₀ codes₀ t₀ first codes t = length part - t
 
-cast-w : tie.Need-cast-w Inv-loop μ-loop
-cast-w c = omega arith
-
 loop-holds : tie.Need-loop-holds Inv-loop μ-loop
 unfolding firstOf
 loop-holds c = record { within = omega arith; placed = refl; counted = omega arith }
-
-mul-a : tie.Need-mul-a Inv-loop μ-loop
-mul-a c = omega arith
-
-shared-slice-read-a : tie.Need-shared-slice-read-a Inv-loop μ-loop
-shared-slice-read-a c = omega arith
-
-cast-strange : tie.Need-cast-strange Inv-loop μ-loop
-cast-strange c = omega arith
-
-strange-requires : tie.Need-strange-requires Inv-loop μ-loop
-strange-requires c κs = search needs
-
-first-next-requires : tie.Need-first-next-requires Inv-loop μ-loop
-first-next-requires c κs = search needs
-
-held-requires : tie.Need-held-requires Inv-loop μ-loop
-held-requires c κs = search needs
 
 add-codes : tie.Need-add-codes Inv-loop μ-loop
 add-codes c =
     let l = c .before .before .before .before .before .loop in
     let part = c .before .before .before .before .before .before .before .args .part .now in
     omega (arith, codes-from part (l .t) (omega arith), codes-le part, c .held .ensures, l .inv .counted)
-
-add-t : tie.Need-add-t Inv-loop μ-loop
-add-t c = omega arith
-
-loop-less : tie.Need-loop-less Inv-loop μ-loop
-loop-less c = omega arith
 
 loop-again : tie.Need-loop-again Inv-loop μ-loop
 unfolding strange strangeAt
@@ -90,16 +66,16 @@ test-block-spec =
     (tie.spec
     Inv-loop
     μ-loop
-    cast-w
+    (λ c. omega arith)
     loop-holds
-    mul-a
-    shared-slice-read-a
-    cast-strange
-    strange-requires
-    first-next-requires
-    held-requires
+    (λ c. omega arith)
+    (λ c. omega arith)
+    (λ c. omega arith)
+    (λ c κs. search needs)
+    (λ c κs. search needs)
+    (λ c κs. search needs)
     add-codes
-    add-t
-    loop-less
+    (λ c. omega arith)
+    (λ c. omega arith)
     loop-again
     returns)

@@ -1,101 +1,76 @@
+-- `audit::check::check_blocks` meets its contract: the tests 16 to 18 are the definition's, in the same order. Starts that pass 16 rise.
+-- Assumes nothing.
 use native.Mathlib.Omega.{arith}
 use borrow.Author.Tests.{lt-ltb, le-ltb}
+use borrow.Author.Needs.{needs}
 use Rattle.table.specs.Words.{codeCount, cellCount}
 use Rattle.table.specs.Answers.{firstOf}
 use Rattle.table.proofs.First.{none-refused}
 use Rattle.audit.specs.Check.{badStart}
 use Rattle.audit.specs.Checked.{fromStarts}
 use Rattle.audit.proofs.Passing.{starts-pass}
-use borrow.Author.Needs.{needs}
 use Rattle.audit.proofs.check.check_blocks.Statement.{statement}
 use Rattle.audit.proofs.check.check_blocks.Tie as tie
-
-shared-slice-read-wide : tie.Need-shared-slice-read-wide
-shared-slice-read-wide c = search needs
-
-wide-requires : tie.Need-wide-requires
-wide-requires c κs = search needs
-
-first-bad-start-requires : tie.Need-first-bad-start-requires
-first-bad-start-requires c κs = search needs
-
-cast-t10 : tie.Need-cast-t10
-cast-t10 c = search needs
 
 returns : tie.Need-returns
 unfolding fromStarts
 returns c =
-    let n = codeCount (c .before .before .before .before .before .args .words .now) in
-    rw (← c .before .first-bad-start .ensures, lt-ltb (c .before .first-bad-start .result) n (omega arith))
-
-first-bad-multiplier-requires : tie.Need-first-bad-multiplier-requires
-first-bad-multiplier-requires c κs = search needs
-
-cast-t11 : tie.Need-cast-t11
-cast-t11 c = search needs
+    let start = c .before in
+    let n = codeCount (start .before .before .before .before .args .words .now) in
+    rw (← start .first-bad-start .ensures, lt-ltb (start .first-bad-start .result) n (omega arith))
 
 returns-2 : tie.Need-returns-2
 unfolding fromStarts
 returns-2 c =
-    let n = codeCount (c .before .before .before .before .before .before .before .args .words .now) in
-    let start = c .before .before .before .first-bad-start in
+    let multiplier = c .before in
+    let start = multiplier .before .before in
+    let n = codeCount (start .before .before .before .before .args .words .now) in
     rw (
-      ← start .ensures,
-      le-ltb (start .result) n (omega arith),
-      ← c .before .first-bad-multiplier .ensures,
-      lt-ltb (c .before .first-bad-multiplier .result) n (omega arith),
+      ← start .first-bad-start .ensures,
+      le-ltb (start .first-bad-start .result) n (omega arith),
+      ← multiplier .first-bad-multiplier .ensures,
+      lt-ltb (multiplier .first-bad-multiplier .result) n (omega arith),
     )
-
-first-bad-cell-requires : tie.Need-first-bad-cell-requires
-first-bad-cell-requires c κs = search needs
-
-shared-slice-read-wide-2 : tie.Need-shared-slice-read-wide-2
-shared-slice-read-wide-2 c = search needs
-
-wide-requires-2 : tie.Need-wide-requires-2
-wide-requires-2 c κs = search needs
-
-cast-t14 : tie.Need-cast-t14
-cast-t14 c = search needs
 
 returns-3 : tie.Need-returns-3
 unfolding fromStarts
 returns-3 c =
-    let words = c .before .before .before .before .before .before .before .before .before .before .before .args .words .now in
-    let start = c .before .before .before .before .before .before .before .first-bad-start in
-    let multiplier = c .before .before .before .before .before .first-bad-multiplier in
-    let cell = c .before .before .before .first-bad-cell in
+    let cell = c .before .before .before in
+    let multiplier = cell .before .before in
+    let start = multiplier .before .before in
+    let words = start .before .before .before .before .args .words .now in
     rw (
-      ← start .ensures,
-      le-ltb (start .result) (codeCount words) (omega arith),
-      ← multiplier .ensures,
-      le-ltb (multiplier .result) (codeCount words) (omega arith),
-      ← cell .ensures,
-      lt-ltb (cell .result) (cellCount words) (omega arith),
+      ← start .first-bad-start .ensures,
+      le-ltb (start .first-bad-start .result) (codeCount words) (omega arith),
+      ← multiplier .first-bad-multiplier .ensures,
+      le-ltb (multiplier .first-bad-multiplier .result) (codeCount words) (omega arith),
+      ← cell .first-bad-cell .ensures,
+      lt-ltb (cell .first-bad-cell .result) (cellCount words) (omega arith),
     )
 
 check-places-requires : tie.Need-check-places-requires
 check-places-requires c κs =
-    let b = c .before .before .before .before .before .before .before .before .before .before .before in
+    let start = c .before .before .before .before .before .before .before in
+    let b = start .before .before .before .before in
     let words = b .args .words .now in
-    let test = firstOf (codeCount words) (badStart words) in
-    let pass = none-refused (codeCount words) (badStart words) .0 (le-ltb test (codeCount words) (omega (arith, c .before .before .before .before .before .before .before .first-bad-start .ensures))) in
-    (b .pre .0, (b .pre .1, starts-pass words (b .pre .1 .no-cells) pass))
+    let n = codeCount words in
+    let none = le-ltb (firstOf n (badStart words)) n (omega (arith, start .first-bad-start .ensures)) in
+    (b .pre .0, (b .pre .1, starts-pass words (b .pre .1 .no-cells) (none-refused n (badStart words) .0 none)))
 
 returns-4 : tie.Need-returns-4
 unfolding fromStarts
 returns-4 c =
-    let words = c .before .before .before .before .before .before .before .before .before .before .before .before .args .words .now in
-    let start = c .before .before .before .before .before .before .before .before .first-bad-start in
-    let multiplier = c .before .before .before .before .before .before .first-bad-multiplier in
-    let cell = c .before .before .before .before .first-bad-cell in
+    let cell = c .before .before .before .before in
+    let multiplier = cell .before .before in
+    let start = multiplier .before .before in
+    let words = start .before .before .before .before .args .words .now in
     rw (
-      ← start .ensures,
-      le-ltb (start .result) (codeCount words) (omega arith),
-      ← multiplier .ensures,
-      le-ltb (multiplier .result) (codeCount words) (omega arith),
-      ← cell .ensures,
-      le-ltb (cell .result) (cellCount words) (omega arith),
+      ← start .first-bad-start .ensures,
+      le-ltb (start .first-bad-start .result) (codeCount words) (omega arith),
+      ← multiplier .first-bad-multiplier .ensures,
+      le-ltb (multiplier .first-bad-multiplier .result) (codeCount words) (omega arith),
+      ← cell .first-bad-cell .ensures,
+      le-ltb (cell .first-bad-cell .result) (cellCount words) (omega arith),
     )
     (c .check-places .ensures)
 
@@ -103,18 +78,18 @@ pub check-blocks-spec : {M : Type 1} → statement M
 check-blocks-spec =
     tie.close
     (tie.spec
-    shared-slice-read-wide
-    wide-requires
-    first-bad-start-requires
-    cast-t10
+    (λ c. search needs)
+    (λ c κs. search needs)
+    (λ c κs. search needs)
+    (λ c. search needs)
     returns
-    first-bad-multiplier-requires
-    cast-t11
+    (λ c κs. search needs)
+    (λ c. search needs)
     returns-2
-    first-bad-cell-requires
-    shared-slice-read-wide-2
-    wide-requires-2
-    cast-t14
+    (λ c κs. search needs)
+    (λ c. search needs)
+    (λ c κs. search needs)
+    (λ c. search needs)
     returns-3
     check-places-requires
     returns-4)

@@ -1,3 +1,6 @@
+-- `audit::check::check_places` meets its contract. The loop's invariant: the blocks before j are surveyed (`Surveyed`). The measure is what is
+-- left of the blocks.
+-- Assumes nothing.
 use Prim.Native.Nat.{ℕ, _-_, _≤_, _<_, _^_}
 use mathlib.Core.Path.{subst, _∙_}
 use native.Mathlib.Nat.{le-antisymm}
@@ -16,12 +19,6 @@ Inv-loop p words n square₀ codes₀ j₀ square codes j = (j ≤ codeCount wor
 abbrev μ-loop : tie.MeasureT-loop
 μ-loop p words n square₀ codes₀ j₀ square codes j = codeCount words - j
 
-shared-slice-read-wide : tie.Need-shared-slice-read-wide Inv-loop μ-loop
-shared-slice-read-wide c = omega arith
-
-wide-requires : tie.Need-wide-requires Inv-loop μ-loop
-wide-requires c κs = search needs
-
 loop-holds : tie.Need-loop-holds Inv-loop μ-loop
 loop-holds c =
     let b = c .before .before .before in
@@ -32,23 +29,26 @@ part-at-requires c κs =
     let b = c .before .before .before .before .before in
     (b .pre .0, (b .pre .1 .0, (b .pre .1 .1, omega arith)))
 
-turn :
-    (c : tie.After-part-at Inv-loop μ-loop)
-    → Turn (c .before .before .before .before .before .before .args .p) (c .before .before .before .before .before .before .args .words .now) (c .before .before .loop .j) (c .before .before .loop .square) (c .before .before .loop .codes) (c .part-at .result)
-turn c =
-    let b = c .before .before .before .before .before .before in
-    record {
-      starts = b .pre .1 .1;
-      whole = b .pre .1 .0 .whole;
-      below = omega arith;
-      before = c .before .before .loop .inv .1;
-      read = c .part-at .ensures;
-    }
+-- block j, whose part was read
+module _ (c : tie.After-part-at Inv-loop μ-loop) where
+  abbrev start : tie.Start Inv-loop μ-loop
+  start = c .before .before .before .before .before .before
 
-cells-lt : (c : tie.After-part-at Inv-loop μ-loop) → cellCount (c .before .before .before .before .before .before .args .words .now) < 4294967296
-cells-lt c =
-    let b = c .before .before .before .before .before .before in
-    omega (arith, cells-le (b .pre .1 .0), b .pre .1 .0 .few-codes)
+  abbrev l : tie.At-loop Inv-loop μ-loop
+  l = c .before .before
+
+  turn : Turn (start .args .p) (start .args .words .now) (l .loop .j) (l .loop .square) (l .loop .codes) (c .part-at .result)
+  turn =
+      record {
+        starts = start .pre .1 .1;
+        whole = start .pre .1 .0 .whole;
+        below = omega arith;
+        before = l .loop .inv .1;
+        read = c .part-at .ensures;
+      }
+
+  cells-lt : cellCount (start .args .words .now) < 4294967296
+  cells-lt = omega (arith, cells-le (start .pre .1 .0), start .pre .1 .0 .few-codes)
 
 add-t11 : tie.Need-add-t11 Inv-loop μ-loop
 add-t11 c = omega (arith, part-within (turn (c .before .before .before)), cells-lt (c .before .before .before))
@@ -70,19 +70,15 @@ first-next-requires c κs = omega (arith, c .before .before .before .before .bef
 
 add-codes : tie.Need-add-codes Inv-loop μ-loop
 add-codes c =
-    let b = c .before .before .before .before .before .before in
-    let next = surveyed-next (turn b) (c .before .before .before .before .if1 .left) in
+    let e = c .before .before .before .before in
+    let b = e .before .before in
+    let next = surveyed-next (turn b) (e .if1 .left) in
     omega (arith, surveyed-codes (turn b .starts) (omega (arith, turn b .below)) next, cells-lt b)
-
-add-j : tie.Need-add-j Inv-loop μ-loop
-add-j c = omega arith
-
-loop-less : tie.Need-loop-less Inv-loop μ-loop
-loop-less c = omega arith
 
 loop-again : tie.Need-loop-again Inv-loop μ-loop
 loop-again c =
-    (omega arith, rw (c .before .first-next .ensures) (surveyed-next (turn (c .before .before .before .before .before .before)) (c .before .before .before .before .if1 .left)))
+    let e = c .before .before .before .before in
+    (omega arith, rw (c .before .first-next .ensures) (surveyed-next (turn (e .before .before)) (e .if1 .left)))
 
 settle-requires : tie.Need-settle-requires Inv-loop μ-loop
 settle-requires c κs =
@@ -99,7 +95,8 @@ returns-2 : tie.Need-returns-2 Inv-loop μ-loop
 returns-2 c =
     let b = c .before .before .before .before .before .before in
     let l = c .before .before .loop in
-    let all = subst (λ (j : ℕ). Surveyed (b .args .p) (b .args .words .now) j (l .square) (l .codes)) (le-antisymm (l .inv .0) (omega arith)) (l .inv .1) in
+    let all =
+    subst (λ (j : ℕ). Surveyed (b .args .p) (b .args .words .now) j (l .square) (l .codes)) (le-antisymm (l .inv .0) (omega arith)) (l .inv .1) in
     c .settle .ensures ∙ surveyed-all (b .pre .1 .1) all
 
 pub check-places-spec : {M : Type 1} → statement M
@@ -108,8 +105,8 @@ check-places-spec =
     (tie.spec
     Inv-loop
     μ-loop
-    shared-slice-read-wide
-    wide-requires
+    (λ c. omega arith)
+    (λ c κs. search needs)
     loop-holds
     part-at-requires
     add-t11
@@ -118,8 +115,8 @@ check-places-spec =
     mul-first-next
     first-next-requires
     add-codes
-    add-j
-    loop-less
+    (λ c. omega arith)
+    (λ c. omega arith)
     loop-again
     settle-requires
     returns-2)

@@ -1,3 +1,5 @@
+-- `audit::conditions::first_bad_cell` meets its contract. The loop's invariant: the test fails below the index. The measure is what is left.
+-- Assumes nothing.
 use Prim.Native.Nat.{_-_, _≤_}
 use mathlib.Core.Path.{sym, _∙_}
 use native.Mathlib.Omega.{arith}
@@ -14,26 +16,11 @@ Inv-loop p words c i₀ i = (i ≤ cellCount words) × Below (badCell p words) i
 abbrev μ-loop : tie.MeasureT-loop
 μ-loop p words c i₀ i = cellCount words - i
 
-shared-slice-read-wide : tie.Need-shared-slice-read-wide Inv-loop μ-loop
-shared-slice-read-wide c = omega arith
-
-wide-requires : tie.Need-wide-requires Inv-loop μ-loop
-wide-requires c κs = search needs
-
 loop-holds : tie.Need-loop-holds Inv-loop μ-loop
 loop-holds c = (omega arith, below-none _)
 
-bad-cell-requires : tie.Need-bad-cell-requires Inv-loop μ-loop
-bad-cell-requires c κs = search needs
-
 returns : tie.Need-returns Inv-loop μ-loop
 returns c = sym (first-found _ _ _ (omega arith) (c .before .before .before .loop .inv .1) (sym (c .before .bad-cell .ensures) ∙ c .if1 .taken))
-
-add-i : tie.Need-add-i Inv-loop μ-loop
-add-i c = omega arith
-
-loop-less : tie.Need-loop-less Inv-loop μ-loop
-loop-less c = omega arith
 
 loop-again : tie.Need-loop-again Inv-loop μ-loop
 loop-again c = (omega arith, below-next _ _ (c .before .before .before .loop .inv .1) (sym (c .before .bad-cell .ensures) ∙ c .if1 .left))
@@ -47,12 +34,12 @@ first-bad-cell-spec =
     (tie.spec
     Inv-loop
     μ-loop
-    shared-slice-read-wide
-    wide-requires
+    (λ c. omega arith)
+    (λ c κs. search needs)
     loop-holds
-    bad-cell-requires
+    (λ c κs. search needs)
     returns
-    add-i
-    loop-less
+    (λ c. omega arith)
+    (λ c. omega arith)
     loop-again
     returns-2)

@@ -1,3 +1,5 @@
+-- `audit::conditions::first_bad_multiplier` meets its contract. The loop's invariant: the test fails below the index. The measure is what is left.
+-- Assumes nothing.
 use Prim.Native.Nat.{_-_, _≤_}
 use mathlib.Core.Path.{sym, _∙_}
 use native.Mathlib.Omega.{arith}
@@ -14,38 +16,22 @@ Inv-loop p words n j₀ j = (j ≤ codeCount words) × Below (badBlockMultiplier
 abbrev μ-loop : tie.MeasureT-loop
 μ-loop p words n j₀ j = codeCount words - j
 
-shared-slice-read-wide : tie.Need-shared-slice-read-wide Inv-loop μ-loop
-shared-slice-read-wide c = omega arith
-
-wide-requires : tie.Need-wide-requires Inv-loop μ-loop
-wide-requires c κs = search needs
-
 loop-holds : tie.Need-loop-holds Inv-loop μ-loop
 loop-holds c = (omega arith, below-none _)
 
-sub-outside : tie.Need-sub-outside Inv-loop μ-loop
-sub-outside c = omega arith
-
-block-multiplier-requires : tie.Need-block-multiplier-requires Inv-loop μ-loop
-block-multiplier-requires c κs = search needs
-
-outside-requires : tie.Need-outside-requires Inv-loop μ-loop
-outside-requires c κs = search needs
-
 returns : tie.Need-returns Inv-loop μ-loop
 unfolding badBlockMultiplier
-returns c = sym (first-found _ _ _ (omega arith) (c .before .before .before .before .loop .inv .1) (rw (← c .before .before .block-multiplier .ensures) (sym (c .before .outside .ensures) ∙ c .if1 .taken)))
-
-add-j : tie.Need-add-j Inv-loop μ-loop
-add-j c = omega arith
-
-loop-less : tie.Need-loop-less Inv-loop μ-loop
-loop-less c = omega arith
+returns c =
+    let q = c .before .before in
+    let holds = sym (c .before .outside .ensures) ∙ c .if1 .taken in
+    sym (first-found _ _ _ (omega arith) (q .before .before .loop .inv .1) (rw (← q .block-multiplier .ensures) holds))
 
 loop-again : tie.Need-loop-again Inv-loop μ-loop
 unfolding badBlockMultiplier
 loop-again c =
-    (omega arith, below-next _ _ (c .before .before .before .before .loop .inv .1) (rw (← c .before .before .block-multiplier .ensures) (sym (c .before .outside .ensures) ∙ c .if1 .left)))
+    let q = c .before .before in
+    let fails = sym (c .before .outside .ensures) ∙ c .if1 .left in
+    (omega arith, below-next _ _ (q .before .before .loop .inv .1) (rw (← q .block-multiplier .ensures) fails))
 
 returns-2 : tie.Need-returns-2 Inv-loop μ-loop
 returns-2 c = sym (first-end _ _ _ (c .before .loop .inv .0) (omega arith) (c .before .loop .inv .1))
@@ -56,14 +42,14 @@ first-bad-multiplier-spec =
     (tie.spec
     Inv-loop
     μ-loop
-    shared-slice-read-wide
-    wide-requires
+    (λ c. omega arith)
+    (λ c κs. search needs)
     loop-holds
-    sub-outside
-    block-multiplier-requires
-    outside-requires
+    (λ c. omega arith)
+    (λ c κs. search needs)
+    (λ c κs. search needs)
     returns
-    add-j
-    loop-less
+    (λ c. omega arith)
+    (λ c. omega arith)
     loop-again
     returns-2)

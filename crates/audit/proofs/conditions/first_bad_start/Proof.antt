@@ -1,3 +1,5 @@
+-- `audit::conditions::first_bad_start` meets its contract. The loop's invariant: the test fails below the index. The measure is what is left.
+-- Assumes nothing.
 use Prim.Native.Nat.{_-_, _≤_}
 use mathlib.Core.Path.{sym, _∙_}
 use native.Mathlib.Omega.{arith}
@@ -14,26 +16,11 @@ Inv-loop words n j₀ j = (j ≤ codeCount words) × Below (badStart words) j
 abbrev μ-loop : tie.MeasureT-loop
 μ-loop words n j₀ j = codeCount words - j
 
-shared-slice-read-wide : tie.Need-shared-slice-read-wide Inv-loop μ-loop
-shared-slice-read-wide c = omega arith
-
-wide-requires : tie.Need-wide-requires Inv-loop μ-loop
-wide-requires c κs = search needs
-
 loop-holds : tie.Need-loop-holds Inv-loop μ-loop
 loop-holds c = (omega arith, below-none _)
 
-bad-start-requires : tie.Need-bad-start-requires Inv-loop μ-loop
-bad-start-requires c κs = search needs
-
 returns : tie.Need-returns Inv-loop μ-loop
 returns c = sym (first-found _ _ _ (omega arith) (c .before .before .before .loop .inv .1) (sym (c .before .bad-start .ensures) ∙ c .if1 .taken))
-
-add-j : tie.Need-add-j Inv-loop μ-loop
-add-j c = omega arith
-
-loop-less : tie.Need-loop-less Inv-loop μ-loop
-loop-less c = omega arith
 
 loop-again : tie.Need-loop-again Inv-loop μ-loop
 loop-again c = (omega arith, below-next _ _ (c .before .before .before .loop .inv .1) (sym (c .before .bad-start .ensures) ∙ c .if1 .left))
@@ -47,12 +34,12 @@ first-bad-start-spec =
     (tie.spec
     Inv-loop
     μ-loop
-    shared-slice-read-wide
-    wide-requires
+    (λ c. omega arith)
+    (λ c κs. search needs)
     loop-holds
-    bad-start-requires
+    (λ c κs. search needs)
     returns
-    add-j
-    loop-less
+    (λ c. omega arith)
+    (λ c. omega arith)
     loop-again
     returns-2)
