@@ -1,1 +1,2 @@
 // Put in, take out.
+pub mod lists;
