@@ -1,3 +1,5 @@
--- In reading order: a list with one element left out, and the changed pairs of a table.
+-- In reading order: a list with one element left out, the changed pairs of a table, and what can be built from.
 mod Omitted
 mod Changed
+mod Accepted
+mod Edits

@@ -2,11 +2,14 @@
 -- of the list or to its front, and the list without the gap stays the same.
 -- Assumes nothing.
 use Prim.Native.Nat.{ℕ, zero, suc, _+_, _-_, _<_, _≤_}
+use native.Mathlib.Nat.{eq-or-lt-of-le}
 use native.Mathlib.Numerals.{add-one}
 use native.Mathlib.Omega.{arith}
 use mathlib.Core.List.{List, [], _∷_, _++_, map}
+use mathlib.Core.Logic.{inl, inr}
 use mathlib.Core.Path.{_≡_, refl, sym, ap, _∙_}
-use lib.ListN.{length, getD, set, take, length-set}
+use lib.ListN.{length, getD, set, take, drop, length-set, take-append-drop}
+use lib.Seq.{take-append-seam}
 use Rattle.editor.specs.Lists.{omit}
 
 module _ {A : Type 0} where
@@ -72,6 +75,18 @@ module _ {A : Type 0} where
   omit-map f [] i = refl
   omit-map f (x ∷ xs) zero = refl
   omit-map {B} f (x ∷ xs) (suc i) = ap (λ (r : List B). f x ∷ r) (omit-map f xs i)
+
+-- of a list that begins with xs, as many as xs leaves
+pub omit-take : (xs list : List ℕ) (i : ℕ) → take (length xs) list ≡ xs → i ≤ length xs → take (length (omit i xs)) (omit i list) ≡ omit i xs
+omit-take xs list i front le =
+    let rest : List ℕ = drop (length xs) list in
+    let whole : list ≡ xs ++ rest = sym (take-append-drop (length xs) list) ∙ ap (λ (r : List ℕ). r ++ rest) front in
+    elim (eq-or-lt-of-le le) [
+      | inl e ↦
+          rw (whole, e, omit-after xs rest, omit-none xs (length xs) (omega arith))
+          (take-append-seam xs (omit 0 rest))
+      | inr l ↦ rw (whole, omit-append xs rest i l) (take-append-seam (omit i xs) rest)
+    ]
 
 -- ---- the loops: without its gap the list stays the same
 
