@@ -1,19 +1,19 @@
 -- What is looked up in a well-formed table: a code that stands in a cell is found with that cell's schedule, and any other is absent.
 -- A code in a cell is in its own, which is the one cell that a lookup reads.
 -- Assumes nothing.
-use Prim.Native.Nat.{ℕ, suc, _+_, _*_, _-_, _<_, _≤_}
+use Prim.Native.Nat.{ℕ, _-_, _<_, _≤_}
 use mathlib.Core.Bool.{true, false, cond}
 use mathlib.Core.List.{List, [], _∷_}
 use mathlib.Core.Logic.{_⊎_, inl, inr}
-use mathlib.Core.Path.{_≡_, refl, sym, ap, _∙_}
-use native.Mathlib.Decide.{ℕ-discrete, decLt}
+use mathlib.Core.Path.{_≡_, ap, _∙_}
+use native.Mathlib.Decide.{ℕ-discrete}
 use native.Mathlib.Nat.{pos-of-ne-zero}
 use native.Mathlib.Omega.{arith}
 use borrow.Author.Tests.{eq-eqb, ne-eqb, le-ltb}
 use lib.Dec.{eqb}
 use lib.ListN.{length}
-use Rattle.table.specs.Answers.{Answer, given, absent, refused, outside}
-use Rattle.table.specs.Words.{codeCount, cellCount, multiplier, total, blockStart, blockEnd, blockMultiplier, cellCode, cellSchedule, blockOf, cellIn, ownCell}
+use Rattle.table.specs.Answers.{given, absent, refused, outside}
+use Rattle.table.specs.Words.{codeCount, cellCount, multiplier, total, blockStart, blockEnd, blockMultiplier, cellCode, cellSchedule, blockOf, ownCell}
 use Rattle.table.specs.Lookup.{badSizes, inCell, inBlock, lookupOf}
 use Rattle.table.proofs.Laws.{true-or-false, within}
 use Rattle.table.proofs.Refusals.{never-both}
@@ -36,7 +36,7 @@ lookup-range p limit words a values pos e = go (true-or-false (outside 1 (p - 1)
     go (inr inside) = let r = within 1 (p - 1) a inside in (r .0, omega arith)
 
 module _ {p limit : ℕ} {words : List ℕ} (f : WellFormed p limit words) where
-  starts : Starts words
+  pub starts : Starts words
   starts = record { none = f .no-cells; first = f .first-start; rising = f .rising; within = f .within }
 
   sizes-hold : badSizes p limit words ≡ false

@@ -1,1 +1,5 @@
 // Build.
+pub mod build;
+mod grouping;
+mod lists;
+mod write;

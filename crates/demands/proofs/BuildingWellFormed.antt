@@ -1,19 +1,18 @@
 -- Words that begin with the table of a valid list are well-formed: its sizes keep the bounds, its blocks follow one another, and each
 -- cell is empty or holds a listed code that is its own.
 -- Assumes nothing.
-use Prim.Native.Nat.{ℕ, zero, suc, _+_, _*_, _-_, _<_, _≤_}
+use Prim.Native.Nat.{ℕ, suc, _+_, _*_, _-_, _<_, _≤_}
 use native.Mathlib.Nat.{add-assoc, mul-pos}
-use native.Mathlib.Numerals.{add-one}
 use native.Mathlib.Omega.{arith}
 use mathlib.Core.List.{List}
 use mathlib.Core.Logic.{_↔_, _⊎_, inl, inr}
-use mathlib.Core.Path.{_≡_, refl, sym, ap, ap₂, _∙_}
-use lib.ListN.{length, getD, take, drop}
-use Rattle.hash.specs.Hash.{hashOf, load, members, cells, Codes}
+use mathlib.Core.Path.{_≡_, sym, ap, _∙_}
+use lib.ListN.{length, getD}
+use Rattle.hash.specs.Hash.{hashOf, load, members}
 use Rattle.hash.specs.Theorems.{Prime}
 use Rattle.hash.proofs.Counting.{hash-lt}
 use Rattle.hash.proofs.Members.{members-codes}
-use Rattle.table.specs.Words.{codeCount, cellCount, multiplier, total, blockStart, blockEnd, blockMultiplier, cellCode, cellSchedule, blockOf, ownCell}
+use Rattle.table.specs.Words.{codeCount, cellCount, blockStart, blockEnd, blockMultiplier, cellCode, cellSchedule, blockOf, ownCell}
 use Rattle.table.specs.TwoLevel.{tabulate, blocksMultiplier, cellsMultiplier, startOf, heldIn, cellsOf}
 use Rattle.table.proofs.Tabulate.{tabulate-ext, part-tabulate}
 use Rattle.table.proofs.Front.{sizeOf, blockQ, start-first, start-next, start-rises, start-last, Fronted, block-is, size-is}
@@ -80,21 +79,21 @@ module _
 
     -- ---- one cell
 
-    cell : (i : ℕ) → i < cellCount words → Filled p codes schedules words i ⊎ Empty words i
+    cell : (i : ℕ) → i < cellCount words → ((x : ℕ) × Filled p codes schedules words i x) ⊎ Empty words i
     cell i h =
         filled-or-empty prime codes schedules (valid .codes-valid) (valid .parallel) words t i (omega (arith, t .celled))
 
     code-below : (i : ℕ) → i < cellCount words → cellCode words i < p
     code-below i h =
         elim (cell i h) [
-          | inl r ↦ omega (arith, r .code, valid .codes-valid .below (r .index) (r .in-list))
+          | inl r ↦ omega (arith, r .1 .code, valid .codes-valid .below (r .0) (r .1 .in-list))
           | inr e ↦ omega (arith, e .no-code, prime .two-le)
         ]
 
     schedule-low : (i : ℕ) → i < cellCount words → cellSchedule words i ≤ 999
     schedule-low i h =
         elim (cell i h) [
-          | inl r ↦ omega (arith, r .schedule, valid .schedules-to-999 (r .index) (r .in-list))
+          | inl r ↦ omega (arith, r .1 .schedule, valid .schedules-to-999 (r .0) (r .1 .in-list))
           | inr e ↦ omega (arith, e .no-schedule)
         ]
 
@@ -102,8 +101,8 @@ module _
     both i h =
         elim (cell i h) [
           | inl r ↦ (
-            λ z. absurd (omega (arith, r .code, valid .codes-valid .positive (r .index) (r .in-list))),
-            λ z. absurd (omega (arith, r .schedule, valid .schedules-from-one (r .index) (r .in-list))),
+            λ z. absurd (omega (arith, r .1 .code, valid .codes-valid .positive (r .0) (r .1 .in-list))),
+            λ z. absurd (omega (arith, r .1 .schedule, valid .schedules-from-one (r .0) (r .1 .in-list))),
           )
           | inr e ↦ (λ z. e .no-schedule, λ z. e .no-code)
         ]
@@ -111,7 +110,7 @@ module _
     own-cell : (i : ℕ) → i < cellCount words → 0 < cellCode words i → ownCell p words (cellCode words i) ≡ i
     own-cell i h pos =
         elim (cell i h) [
-          | inl r ↦ ap (ownCell p words) (r .code) ∙ r .its-own
+          | inl r ↦ ap (ownCell p words) (r .1 .code) ∙ r .1 .its-own
           | inr e ↦ absurd (omega (arith, e .no-code))
         ]
 
@@ -127,7 +126,7 @@ module _
         → blockStart words (blockOf p words (cellCode words i)) < blockEnd words (blockOf p words (cellCode words i))
     has i h pos =
         elim (cell i h) [
-          | inl r ↦ rw (r .code) (listed-has (r .index) (r .in-list))
+          | inl r ↦ rw (r .1 .code) (listed-has (r .0) (r .1 .in-list))
           | inr e ↦ absurd (omega (arith, e .no-code))
         ]
 

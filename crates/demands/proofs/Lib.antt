@@ -1,5 +1,12 @@
--- In reading order: the words that settle a lookup; tables from anywhere; then the table of a list.
+-- In reading order: the words that settle a lookup, and tables from anywhere; then the table of a list: its cells, that it is
+-- well-formed, its lookups, its build, other orders of the list, and all together.
 pub mod Settle
+pub mod Within
 pub mod Reading
+pub mod RightAnswer
 pub mod BuildingCells
 pub mod BuildingWellFormed
+pub mod BuildingLookup
+pub mod BuildingBuild
+pub mod BuildingOrder
+pub mod Building

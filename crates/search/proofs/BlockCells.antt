@@ -1,12 +1,10 @@
 -- The cells of a table, block by block: those of block j hold its own codes, each at its place in the block. A code of another
 -- block has its own cell among that block's cells, before or after these.
-use Prim.Native.Nat.{ℕ, zero, suc, _+_, _*_, _<_, _≤_}
+use Prim.Native.Nat.{ℕ, suc, _+_, _*_, _<_}
 use native.Mathlib.Decide.{ℕ-discrete, decLt}
 use native.Mathlib.Omega.{arith}
-use mathlib.Core.Bool.{cond}
 use mathlib.Core.List.{List, [], _∷_, _++_}
 use mathlib.Core.Path.{_≡_, refl, sym, ap, _∙_}
-use lib.Dec.{eqb}
 use lib.ListN.{length, getD}
 use Rattle.hash.specs.Hash.{hashOf, load, members}
 use Rattle.hash.proofs.Counting.{load-members}

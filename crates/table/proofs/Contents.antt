@@ -1,12 +1,11 @@
 -- What is read from words that begin with the table of a list, whatever follows it.
 -- Assumes nothing.
-use Prim.Native.Nat.{ℕ, _+_, _*_, _-_, _<_, _≤_}
-use native.Mathlib.Nat.{add-assoc}
+use Prim.Native.Nat.{ℕ, _+_, _*_, _<_, _≤_}
 use native.Mathlib.Omega.{arith}
 use mathlib.Core.List.{List, _++_, append-assoc}
 use mathlib.Core.Logic.{_⊎_, inl, inr}
 use mathlib.Core.Path.{_≡_, refl, sym, ap, _∙_}
-use lib.ListN.{length, getD, take, drop, length-append, length-take, take-append-drop}
+use lib.ListN.{length, getD, take, drop, length-append, take-append-drop}
 use Rattle.hash.specs.Hash.{cells, Codes}
 use Rattle.hash.specs.Theorems.{Prime}
 use Rattle.table.specs.Words.{codeCount, cellCount, totalOf, total, cellCode, cellSchedule, ownCell}
@@ -85,10 +84,9 @@ module _ (p : ℕ) (codes : List ℕ) where
 
   -- own cells are the same read from any words with this front
   pub own-front :
-      (words : List ℕ) → Fronted p (blocksMultiplier p codes) codes words
-      → (x : ℕ) → x < length codes → ownCell p (frontOf p codes) (getD codes x 0) ≡ ownCell p words (getD codes x 0)
-  own-front words f x h =
-      own-is (frontOf-fronted p codes) (getD codes x 0) (omega arith) ∙ sym (own-is f (getD codes x 0) (omega arith))
+      (words : List ℕ) → Fronted p (blocksMultiplier p codes) codes words → 0 < length codes
+      → (a : ℕ) → ownCell p (frontOf p codes) a ≡ ownCell p words a
+  own-front words f some a = own-is (frontOf-fronted p codes) a some ∙ sym (own-is f a some)
 
 module _ (p : ℕ) (codes schedules : List ℕ) where
   pub table-is : tableOf p codes schedules ≡ tableWith p (frontOf p codes) (cellsOf p codes) codes schedules
@@ -122,9 +120,9 @@ module _ (p : ℕ) (codes schedules : List ℕ) where
           front = f;
           celled = c;
           code-held = λ i h. first-run p _ codes (held codes) (held schedules) (cellsOf p codes) rest (codeCount tableRuns) i (f .counts) h
-              ∙ held-same p (frontOf p codes) tableRuns codes codes i (own-front p codes tableRuns f);
+              ∙ held-same p (frontOf p codes) tableRuns codes codes i (λ x l. own-front p codes tableRuns f (omega arith) (getD codes x 0));
           schedule-held = λ i h. second-run p _ codes (held codes) (held schedules) (cellsOf p codes) rest (codeCount tableRuns) (cellCount tableRuns) i (f .counts) c h
-              ∙ held-same p (frontOf p codes) tableRuns codes schedules i (own-front p codes tableRuns f);
+              ∙ held-same p (frontOf p codes) tableRuns codes schedules i (λ x l. own-front p codes tableRuns f (omega arith) (getD codes x 0));
           totals = omega (arith, f .counts, c, needed-is p codes);
           whole = omega (arith, table-length, ap length table-runs, length-append (tableOf p codes schedules) rest);
         }
@@ -137,12 +135,11 @@ module _ (p : ℕ) (codes schedules : List ℕ) where
 -- ---- one cell
 
 -- cell i is that of the code with index x, and holds it with its schedule
-pub record Filled (p : ℕ) (codes schedules words : List ℕ) (i : ℕ) : Type 0 where
-  pub index : ℕ
-  pub in-list : index < length codes
-  pub its-own : ownCell p words (getD codes index 0) ≡ i
-  pub code : cellCode words i ≡ getD codes index 0
-  pub schedule : cellSchedule words i ≡ getD schedules index 0
+pub record Filled (p : ℕ) (codes schedules words : List ℕ) (i x : ℕ) : Type 0 where
+  pub in-list : x < length codes
+  pub its-own : ownCell p words (getD codes x 0) ≡ i
+  pub code : cellCode words i ≡ getD codes x 0
+  pub schedule : cellSchedule words i ≡ getD schedules x 0
 
 -- cell i is nobody's, and empty
 pub record Empty (words : List ℕ) (i : ℕ) : Type 0 where
@@ -154,23 +151,22 @@ module _
     (words : List ℕ) (t : Tabled p codes schedules words)
   where
     -- the cell of a listed code
-    pub filled-own : (x : ℕ) → x < length codes → Filled p codes schedules words (ownCell p words (getD codes x 0))
+    pub filled-own : (x : ℕ) → x < length codes → Filled p codes schedules words (ownCell p words (getD codes x 0)) x
     filled-own x h =
         let apart : Apart p words codes = listed-apart prime (blocksMultiplier p codes) codes valid words (t .front) in
         let l : ownCell p words (getD codes x 0) < cellsOf p codes =
         rw (cellsOf-is p codes) (listed-own-lt prime (blocksMultiplier p codes) codes valid words (t .front) x h) in
         record {
-          index = x;
           in-list = h;
           its-own = refl;
           code = t .code-held _ l ∙ held-own p words codes codes refl apart x h;
           schedule = t .schedule-held _ l ∙ held-own p words codes schedules same apart x h;
         }
 
-    pub filled-or-empty : (i : ℕ) → i < cellsOf p codes → Filled p codes schedules words i ⊎ Empty words i
+    pub filled-or-empty : (i : ℕ) → i < cellsOf p codes → ((x : ℕ) × Filled p codes schedules words i x) ⊎ Empty words i
     filled-or-empty i h =
         elim (holder p words codes codes i refl) [
-          | inl r ↦ inl (rw (r .its-own) at (filled-own (r .index) (r .in-list)))
+          | inl r ↦ inl (r .index, rw (r .its-own) at (filled-own (r .index) (r .in-list)))
           | inr none ↦
               inr
               (record {

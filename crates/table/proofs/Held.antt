@@ -1,16 +1,16 @@
 -- What a cell holds: the value listed with the first code whose own cell it is. Where own cells differ, that is the only such code,
 -- so the cells are what remains of c zeros when each value in turn is stored at its code's own cell.
 -- Assumes nothing.
-use Prim.Native.Nat.{ℕ, zero, suc, _+_, _<_, _≤_}
+use Prim.Native.Nat.{ℕ, zero, suc, _<_, _≤_}
 use native.Mathlib.Decide.{ℕ-discrete, decLt}
 use native.Mathlib.Omega.{arith}
-use mathlib.Core.Bool.{Bool, cond}
+use mathlib.Core.Bool.{cond}
 use mathlib.Core.List.{List, [], _∷_}
 use mathlib.Core.Logic.{_⊎_, inl, inr}
 use mathlib.Core.Path.{_≡_, refl, sym, ap, ap₂, _∙_}
 use lib.Dec.{eqb}
 use lib.ListN.{length, getD, take, set, replicate}
-use lib.Seq.{getD-take, length-take-le, take-length, take-all}
+use lib.Seq.{getD-take, length-take-le, take-all}
 use borrow.Author.Tests.{eq-eqb, ne-eqb}
 use Rattle.table.specs.Words.{ownCell}
 use Rattle.table.specs.TwoLevel.{tabulate, heldIn}

@@ -11,3 +11,4 @@ pub mod Held
 pub mod Chosen
 pub mod Own
 pub mod Contents
+pub mod Order

@@ -1,0 +1,83 @@
+-- `builder::build::build_at` meets its contract: its tests are the definition's, in the same order.
+-- Assumes nothing.
+use mathlib.Core.Path.{sym}
+use native.Mathlib.Omega.{arith}
+use borrow.Author.Needs.{needs}
+use Rattle.builder.specs.Build.{badCode, badSchedule}
+use Rattle.builder.proofs.Among.{codes-pass}
+use Rattle.builder.proofs.Outcomes.{passes, lengths-differ, too-many-pairs, bad-code, bad-schedule, repeated-code, accepted-built}
+use Rattle.builder.proofs.build.build_at.Statement.{statement}
+use Rattle.builder.proofs.build.build_at.Tie as tie
+
+returns : tie.Need-returns
+returns c = lengths-differ _ _ _ _ _ (c .if1 .taken)
+
+returns-2 : tie.Need-returns-2
+returns-2 c = too-many-pairs _ _ _ _ _ (c .before .if1 .left) (c .if2 .taken)
+
+returns-3 : tie.Need-returns-3
+returns-3 c =
+    let few = c .before .before in
+    bad-code _ _ _ _ _ (few .before .if1 .left) (few .if2 .left) _ (c .before .first-outside .ensures) (c .if3 .taken)
+
+returns-4 : tie.Need-returns-4
+unfolding badCode
+returns-4 c =
+    let good = c .before .before in
+    let few = good .before .before in
+    bad-schedule _ _ _ _ _ (few .before .if1 .left) (few .if2 .left)
+    (passes _ (good .before .first-outside .ensures) (good .if3 .left))
+    _ (c .before .first-outside2 .ensures) (c .if4 .taken)
+
+returns-5 : tie.Need-returns-5
+unfolding badCode badSchedule
+returns-5 c =
+    let scheduled = c .before .before in
+    let good = scheduled .before .before in
+    let few = good .before .before in
+    repeated-code _ _ _ _ _ (few .before .if1 .left) (few .if2 .left)
+    (passes _ (good .before .first-outside .ensures) (good .if3 .left))
+    (passes _ (scheduled .before .first-outside2 .ensures) (scheduled .if4 .left)) _ (c .before .first-repeated .ensures) (c .if5 .taken)
+
+build-accepted-requires : tie.Need-build-accepted-requires
+unfolding badCode
+build-accepted-requires c κs =
+    let new = c .before in
+    let scheduled = new .before .before in
+    let good = scheduled .before .before in
+    let few = good .before .before in
+    let valid =
+    codes-pass _ _ (passes _ (good .before .first-outside .ensures) (good .if3 .left))
+    (passes _ (new .before .first-repeated .ensures) (new .if5 .left)) in
+    (record { prime = few .before .before .before .before .before .pre .0; valid = valid; few = omega (arith, few .if2 .left) }, sym (few .before .if1 .left))
+
+returns-6 : tie.Need-returns-6
+unfolding badCode badSchedule
+returns-6 c =
+    let new = c .before .before .before .before in
+    let scheduled = new .before .before in
+    let good = scheduled .before .before in
+    let few = good .before .before in
+    accepted-built _ _ _ _ _ (few .before .if1 .left) (few .if2 .left)
+    (passes _ (good .before .first-outside .ensures) (good .if3 .left))
+    (passes _ (scheduled .before .first-outside2 .ensures) (scheduled .if4 .left)) _ _ (passes _ (new .before .first-repeated .ensures) (new .if5 .left)) (c .before .before .build-accepted .ensures)
+
+pub build-at-spec : {M : Type 1} → statement M
+build-at-spec =
+    tie.close
+    (tie.spec
+    returns
+    returns-2
+    (λ c. search needs)
+    (λ c κs. search needs)
+    (λ c. search needs)
+    returns-3
+    (λ c κs. search needs)
+    (λ c. search needs)
+    returns-4
+    (λ c κs. search needs)
+    (λ c. search needs)
+    returns-5
+    build-accepted-requires
+    (λ c. search needs)
+    returns-6)

@@ -1,0 +1,108 @@
+-- Demands 2 and 3, for every valid list: a built table is well-formed, so what is proved of tables from anywhere holds of it.
+-- Assumes nothing.
+use Prim.Native.Nat.{ℕ, _≤_}
+use native.Mathlib.Omega.{arith}
+use mathlib.Core.List.{List, [], _∷_}
+use mathlib.Core.Path.{_≡_, sym, _∙_}
+use lib.ListN.{length, take}
+use Rattle.hash.proofs.Primes.{prime-65537}
+use Rattle.table.specs.Answers.{given}
+use Rattle.table.specs.TwoLevel.{wordsNeeded, tableOf}
+use Rattle.table.specs.Lookup.{lookupOf}
+use Rattle.table.proofs.Contents.{Tabled, tabled}
+use Rattle.audit.specs.WellFormed.{WellFormed}
+use Rattle.audit.specs.Pairs.{codesOf, schedulesOf, pairsIn}
+use Rattle.audit.proofs.Lookups.{lookup-range}
+use Rattle.builder.specs.Build.{builtWords}
+use Rattle.demands.specs.Lists.{Valid, Listed, rightAnswer, enough, lookedAt}
+use Rattle.demands.specs.Theorems.{Accepted, TableOfList, Settled, BuiltFrom, Building}
+use Rattle.demands.proofs.Within.{looked-within}
+use Rattle.demands.proofs.Reading.{reading}
+use Rattle.demands.proofs.RightAnswer.{right-exactly}
+use Rattle.demands.proofs.BuildingWellFormed.{well-formed}
+use Rattle.demands.proofs.BuildingLookup.{lookup-right}
+use Rattle.demands.proofs.BuildingBuild.{build-succeeds, built-table, built-kept, needed-enough}
+use Rattle.demands.proofs.BuildingOrder.{order-succeeds, order-table}
+
+-- ---- the table of a list
+
+module _ (codes schedules : List ℕ) (valid : Valid 65537 2048 codes schedules) where
+  module _ (words : List ℕ) (e : take (wordsNeeded 65537 codes) words ≡ tableOf 65537 codes schedules) where
+    t : Tabled 65537 codes schedules words
+    t = tabled 65537 codes schedules words e
+
+    wf : WellFormed 65537 2048 words
+    wf = well-formed prime-65537 codes schedules valid words t
+
+    right : (a : ℕ) → 1 ≤ a → a ≤ 65536 → lookupOf 65537 2048 words a ≡ rightAnswer codes schedules a
+    right a from to = lookup-right prime-65537 codes schedules valid words t a from (omega arith)
+
+    accept : Accepted words
+    accept = reading .check-exactly words .1 wf
+
+    read : (a s : ℕ) → Listed (codesOf (pairsIn words)) (schedulesOf (pairsIn words)) a s → Listed codes schedules a s
+    read a s l =
+        let found : lookupOf 65537 2048 words a ≡ given (s ∷ []) = reading .pairs-exactly words accept a s .1 l in
+        let range = lookup-range 65537 2048 words a (s ∷ []) (omega arith) found in
+        right-exactly codes schedules a s (valid .parallel) (valid .codes-valid .different) .0
+        (sym (right a (range .0) (omega (arith, range .1))) ∙ found)
+
+    unread : (a s : ℕ) → Listed codes schedules a s → Listed (codesOf (pairsIn words)) (schedulesOf (pairsIn words)) a s
+    unread a s l =
+        let from : 1 ≤ a = omega (arith, l .code-there, valid .codes-valid .positive (l .index) (l .in-list)) in
+        let to : a ≤ 65536 = omega (arith, l .code-there, valid .codes-valid .below (l .index) (l .in-list)) in
+        reading .pairs-exactly words accept a s .0
+        (right a from to ∙ right-exactly codes schedules a s (valid .parallel) (valid .codes-valid .different) .1 l)
+
+  table-of-list : TableOfList codes schedules
+  table-of-list =
+      record {
+        lookup-right = right;
+        accepted = accept;
+        reads-back = λ words e a s. (read words e a s, unread words e a s);
+      }
+
+-- ---- a build of it
+
+module _
+    (codes schedules words : List ℕ) (valid : Valid 65537 2048 codes schedules) (lent : enough (length codes) ≤ length words)
+  where
+    room : wordsNeeded 65537 codes ≤ length words
+    room = omega (arith, needed-enough prime-65537 codes (valid .codes-valid))
+
+    built : List ℕ
+    built = builtWords 65537 2048 codes schedules words
+
+    table : take (wordsNeeded 65537 codes) built ≡ tableOf 65537 codes schedules
+    unfolding built
+    table = built-table codes schedules valid words room
+
+    settled : (a : ℕ) → 1 ≤ a → a ≤ 65536 → Settled codes schedules built a
+    settled a from to =
+        let t : Tabled 65537 codes schedules built = tabled 65537 codes schedules built table in
+        record {
+          positions = lookedAt 65537 built a;
+          eight = reading .eight-at-most built a;
+          of-table = λ i l. omega (arith, looked-within (well-formed prime-65537 codes schedules valid built t) a i l, t .totals);
+          settle = λ other same agree. reading .eight-settle built other a same agree ∙ right codes schedules valid built table a from to;
+        }
+
+    built-from : BuiltFrom codes schedules words
+    unfolding built
+    built-from =
+        record {
+          succeeds = build-succeeds codes schedules valid (length words) room;
+          table = table;
+          bound = needed-enough prime-65537 codes (valid .codes-valid);
+          kept = built-kept codes schedules valid words room;
+          any-order = λ codes′ schedules′ words′ valid′ same lent′.
+              let room′ : wordsNeeded 65537 codes′ ≤ length words′
+              = omega (arith, needed-enough prime-65537 codes′ (valid′ .codes-valid)) in (
+                order-succeeds prime-65537 codes schedules codes′ schedules′ valid valid′ same (length words′) room′,
+                order-table prime-65537 codes schedules codes′ schedules′ valid valid′ same words′ room′ ∙ sym table,
+              );
+          settled = settled;
+        }
+
+pub building : Building
+building = record { tables = table-of-list; any-list = built-from }

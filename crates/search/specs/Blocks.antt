@@ -1,0 +1,32 @@
+-- The least k of a list: what its code promises.
+use Prim.Native.Nat.{ℕ, _+_, _*_, _<_, _≤_}
+use mathlib.Core.Bool.{Bool, cond}
+use mathlib.Core.List.{List}
+use mathlib.Core.Path.{_≡_}
+use lib.Dec.{leb}
+use lib.ListN.{length}
+use Rattle.hash.specs.Hash.{cells}
+use Rattle.table.specs.TwoLevel.{blocksMultiplier}
+use Rattle.search.specs.declared.blocks.Count.{Count}
+use Rattle.search.specs.declared.blocks.Count.the-variants.{Fits, TooMany}
+use Rattle.search.specs.Searchable.{mostCodes}
+
+-- k keeps the cells of a list at most 3n - 2
+abbrev pub keeps : ℕ → List ℕ → ℕ → Bool
+keeps p codes k = leb (cells p k codes + 2) (3 * length codes)
+
+-- the cells of a list under k, where k keeps the bound
+abbrev pub countOf : ℕ → ℕ → List ℕ → Count
+countOf p k codes = cond (keeps p codes k) (Fits (cells p k codes)) TooMany
+
+-- codes to count under one multiplier, with a count for each of as many blocks
+pub record Countable (p : ℕ) (codes counts : List ℕ) : Type 0 where
+  pub divides : 0 < p
+  pub some : 0 < length codes
+  pub few : length codes ≤ mostCodes
+  pub sized : length counts ≡ length codes
+
+-- k is the least multiplier of a list, and c its cells
+pub record LeastBlocks (p : ℕ) (codes : List ℕ) (k c : ℕ) : Type 0 where
+  pub multiplier : k ≡ blocksMultiplier p codes
+  pub cells : c ≡ cells p k codes
