@@ -15,12 +15,14 @@ use lib.ListN.{length}
 use Rattle.table.specs.Answers.{given, absent, refused, outside}
 use Rattle.table.specs.Words.{codeCount, cellCount, multiplier, total, blockStart, blockEnd, blockMultiplier, cellCode, cellSchedule, blockOf, ownCell}
 use Rattle.table.specs.Lookup.{badSizes, inCell, inBlock, lookupOf}
-use Rattle.table.proofs.Laws.{true-or-false, within}
+use Rattle.hash.proofs.Indicators.{true-or-false}
+use Rattle.table.proofs.Laws.{within}
 use Rattle.table.proofs.Refusals.{never-both}
 use Rattle.audit.specs.WellFormed.{WellFormed}
 use Rattle.audit.specs.Blocks.{Starts}
 use Rattle.audit.proofs.Partition.{block-lt, start-le-end, end-within, cell-lt}
-use Rattle.audit.proofs.WellFormed.{some-codes, cells-hold}
+use Rattle.audit.proofs.Bounds.{some-codes}
+use Rattle.audit.proofs.WellFormed.{cells-hold}
 
 -- x is from low to high
 within-holds : (low high x : ℕ) → low ≤ x → x ≤ high → outside low high x ≡ false

@@ -149,3 +149,11 @@ module _ (words : List ℕ) (s : Starts words) (whole : total words ≤ length w
       let l : t < blockEnd words j - blockStart words j = rw part-length at l in
       rw (part-length, part-at t l)
       (strange-is p words s j t (cellCode words (blockStart words j + t)) lj l)
+
+-- as the code hands it on: n, the start and the end were read before
+pub part-is :
+    (words : List ℕ) (j n start end : ℕ) → n ≡ codeCount words → start ≡ blockStart words j → end ≡ blockEnd words j
+    → take ((3 + 2 * n + end) - (3 + 2 * n + start)) (drop (3 + 2 * n + start) words) ≡ blockCodes words j
+part-is words j n start end en es ee =
+    let cells : (3 + 2 * n + end) - (3 + 2 * n + start) ≡ blockEnd words j - blockStart words j = omega arith in
+    rw (cells, en, es)

@@ -20,6 +20,7 @@ use Rattle.table.proofs.Refusals.{Refusal, refusals, Passed, Settled, refusals-
 use Rattle.audit.specs.Check.{checkOf, badStart, badBlockMultiplier, badCell, misplaced, badSquare, codesIn, allCodes}
 use Rattle.audit.specs.WellFormed.{WellFormed}
 use Rattle.audit.specs.Blocks.{Starts}
+use Rattle.audit.proofs.Bounds.{some-codes}
 use Rattle.audit.proofs.Passing.{starts-pass, starts-hold, multiplier-passes, cell-passes, place-passes, square-passes}
 
 first-refusal : ℕ → (ℕ → Bool) → ℕ → Refusal
@@ -45,14 +46,6 @@ tests p limit words =
 pub accepted-or-refused : (p limit : ℕ) (words : List ℕ) → Settled (codeCount words ∷ total words ∷ []) (checkOf p limit words)
 unfolding checkOf tests
 accepted-or-refused p limit words = refusals-settled (tests p limit words) (codeCount words ∷ total words ∷ [])
-
--- a table with a cell has a block
-pub some-codes : (words : List ℕ) → (codeCount words ≡ 0 → cellCount words ≡ 0) → (i : ℕ) → i < cellCount words → 0 < codeCount words
-some-codes words none i l =
-    elim (ℕ-discrete (codeCount words) 0) [
-      | yes e ↦ absurd (omega (arith, none e))
-      | no ne ↦ omega arith
-    ]
 
 pub cells-hold : (p limit : ℕ) (words : List ℕ) → WellFormed p limit words → tooManyCells words ≡ false
 cells-hold p limit words f =

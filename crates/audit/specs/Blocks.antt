@@ -1,5 +1,5 @@
 -- One block of a table by itself: what the check hands on, and what it relies on there.
-use Prim.Native.Nat.{ℕ, suc, _+_, _<_, _≤_}
+use Prim.Native.Nat.{ℕ, suc, _+_, _-_, _<_, _≤_}
 use mathlib.Core.Bool.{Bool, cond, not, _&&_}
 use mathlib.Core.List.{List}
 use mathlib.Core.Path.{_≡_}
@@ -7,9 +7,10 @@ use lib.Dec.{eqb, ltb}
 use lib.ListN.{length, getD}
 use Rattle.hash.specs.Hash.{hashOf}
 use Rattle.table.specs.Answers.{firstOf}
-use Rattle.table.specs.Words.{codeCount, cellCount, blockStart}
-use Rattle.audit.specs.Check.{codesIn}
+use Rattle.table.specs.Words.{codeCount, cellCount, multiplier, blockStart, blockEnd, blockMultiplier}
+use Rattle.audit.specs.Check.{codesIn, blockCodes}
 use Rattle.audit.specs.declared.blocks.Placed.{Placed}
+use Rattle.audit.specs.declared.check.Part.{Part}
 
 -- none of 13 and 16 holds: the blocks follow one another from cell 0 to cell c
 pub record Starts (words : List ℕ) : Type 0 where
@@ -35,3 +36,9 @@ firstNext first i holds = cond (ltb first i) first (cond holds i (suc i))
 pub record Tested (p k n j q : ℕ) (part : List ℕ) (r : Placed) : Type 0 where
   pub first : r .first ≡ firstOf (length part) (strangeAt p k n j q part)
   pub codes : r .codes ≡ codesIn part
+
+-- what the check learns of block j
+pub record PartRead (p : ℕ) (words : List ℕ) (j : ℕ) (r : Part) : Type 0 where
+  pub start : r .start ≡ blockStart words j
+  pub cells : r .cells ≡ blockEnd words j - blockStart words j
+  pub test : Tested p (multiplier words) (codeCount words) j (blockMultiplier words j) (blockCodes words j) (record { first = r .first; codes = r .codes })

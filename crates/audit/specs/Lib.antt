@@ -2,6 +2,7 @@
 pub mod Check
 pub mod WellFormed
 pub mod Pairs
-pub mod Merge
 pub mod Checked
 pub mod Blocks
+pub mod Sorting
+pub mod ReadBack

@@ -2,3 +2,5 @@
 pub mod blocks;
 pub mod check;
 pub mod conditions;
+pub mod pairs;
+pub mod sorting;

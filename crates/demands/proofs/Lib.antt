@@ -10,3 +10,4 @@ pub mod BuildingLookup
 pub mod BuildingBuild
 pub mod BuildingOrder
 pub mod Building
+pub mod Theorems

@@ -15,7 +15,7 @@ use Rattle.audit.specs.Check.{checkOf}
 use Rattle.audit.specs.WellFormed.{WellFormed}
 use Rattle.audit.specs.Pairs.{Pair, codesOf, schedulesOf, pairsIn, pairsOf}
 use Rattle.audit.proofs.WellFormed.{check-exactly}
-use Rattle.audit.proofs.Pairs as Pairs
+use Rattle.audit.proofs.PairLaws as Pairs
 use Rattle.demands.specs.Lists.{Valid, Listed}
 use Rattle.demands.specs.Theorems.{Reading}
 use Rattle.demands.proofs.Settle.{lookedAt-eight, settle}

@@ -1,20 +1,19 @@
 -- The cells of a list, counted from its last code to its first. When i codes are left, each count is the load of a block with the codes
 -- from i on, and c is their cells: one for each code, and two for each pair that is put together. Cells only grow with the codes, so that
 -- c past the bound decides before all are counted.
-use Prim.Native.Nat.{ℕ, zero, suc, _+_, _*_, _-_, _<_, _≤_}
+use Prim.Native.Nat.{ℕ, _+_, _*_, _-_, _<_, _≤_}
 use native.Mathlib.Decide.{ℕ-discrete}
 use native.Mathlib.Omega.{arith}
 use mathlib.Core.Bool.{Bool, cond}
-use mathlib.Core.List.{List, [], _∷_}
-use mathlib.Core.Path.{_≡_, refl, sym, ap, ap₂, _∙_}
+use mathlib.Core.List.{List}
+use mathlib.Core.Path.{_≡_, refl, sym, ap, _∙_}
 use borrow.Author.Tests.{le-leb, lt-leb}
-use lib.Dec.{eqb, leb}
+use lib.Dec.{eqb}
 use lib.ListN.{length, getD, drop, set, replicate, length-set, length-drop, getD-replicate, length-replicate}
 use lib.Seq.{drop-length, getD-set-same, getD-set-other}
 use Rattle.hash.specs.Hash.{hashOf, load, together, cells}
 use Rattle.hash.proofs.Counting.{load-le, cells-is}
 use Rattle.hash.proofs.Indicators.{indicator, indicator-eq, indicator-ne}
-use Rattle.search.specs.declared.blocks.Count.{Count}
 use Rattle.search.specs.declared.blocks.Count.the-variants.{Fits, TooMany}
 use Rattle.search.specs.Blocks.{countOf}
 use Rattle.search.proofs.Ends.{drop-before, together-drop}

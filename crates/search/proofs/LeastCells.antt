@@ -1,19 +1,18 @@
 -- The search for q: what placing a block by q tells, that some q separates the block, and that the least such q is the block's own.
-use Prim.Native.Nat.{ℕ, zero, suc, _+_, _*_, _%_, _<_, _≤_}
+use Prim.Native.Nat.{ℕ, _+_, _*_, _<_, _≤_}
 use native.Mathlib.Nat.{mul-le-mul-left, mul-le-mul-right, mul-pos}
 use native.Mathlib.Omega.{arith}
-use mathlib.Core.Bool.{Bool, true, false, cond}
+use mathlib.Core.Bool.{Bool, true, false}
 use mathlib.Core.List.{List, [], _∷_}
 use mathlib.Core.Path.{_≡_, refl, sym, ap, _∙_}
 use borrow.Author.Tests.{eq-eqb, ne-eqb}
-use lib.Dec.{eqb}
 use lib.ListN.{length, getD, set, replicate, length-replicate}
-use Rattle.hash.specs.Hash.{hashOf, load, together, least}
+use Rattle.hash.specs.Hash.{hashOf, load, together}
 use Rattle.hash.proofs.Theorems.{theorems}
 use Rattle.table.specs.TwoLevel.{tabulate, cellsMultiplier}
 use Rattle.search.specs.Placed.{placed}
-use Rattle.search.specs.Searchable.{Searchable}
-use Rattle.search.specs.Cells.{square, separates, placedBy, Unplaced, Placing, Tried, LeastCells}
+use Rattle.search.specs.Searchable.{Searchable, mostCodes}
+use Rattle.search.specs.Cells.{square, separates, Unplaced, Placing, Tried, LeastCells}
 use Rattle.search.proofs.Tries.{Exists, Next, next-start, next-more, next-found}
 use Rattle.search.proofs.Places.{placing-all}
 
@@ -28,9 +27,9 @@ module _ {p : ℕ} {block cells : List ℕ} (u : Unplaced p block cells) where
   pub unplaced-some : 0 < length block → 0 < length cells
   unplaced-some some = rw unplaced-square (mul-pos some some)
 
-  pub unplaced-few : length cells ≤ 2048 * 2048
+  pub unplaced-few : length cells ≤ mostCodes * mostCodes
   unplaced-few =
-      omega (arith, unplaced-square, mul-le-mul-left (length block) (u .codes .few), mul-le-mul-right 2048 (u .codes .few))
+      omega (arith, unplaced-square, mul-le-mul-left (length block) (u .codes .few), mul-le-mul-right mostCodes (u .codes .few))
 
   -- what a trial ends with
   pub tried-all : {q i : ℕ} {new : List ℕ} → Placing p q (length cells) block i new → i ≤ 0 → Tried p q block cells new true

@@ -1,24 +1,22 @@
 -- A block's codes, placed in w cells from the last to the first. When i codes are left, a cell holds the code from i on that belongs there,
 -- and 0 where there is none: so a cell that is not 0 tells that the next code shares it. Taken out from i on, the codes leave the cells
 -- as they were.
-use Prim.Native.Nat.{ℕ, zero, suc, _+_, _*_, _-_, _<_, _≤_}
+use Prim.Native.Nat.{ℕ, zero, suc, _+_, _-_, _<_, _≤_}
 use native.Mathlib.Decide.{ℕ-discrete}
 use native.Mathlib.Numerals.{add-one}
 use native.Mathlib.Omega.{arith}
-use mathlib.Core.Bool.{Bool, true, false, cond}
 use mathlib.Core.List.{List, [], _∷_}
 use mathlib.Core.Path.{_≡_, refl, sym, ap, _∙_}
-use borrow.Author.Tests.{eq-eqb, ne-eqb}
-use lib.Dec.{eqb}
 use lib.ListN.{length, getD, drop, set, replicate, length-set, length-replicate, drop-of-length-le}
 use lib.Seq.{drop-length, drop-cons}
 use Rattle.hash.specs.Hash.{hashOf, load, together, Codes}
-use Rattle.hash.proofs.Indicators.{indicator-eq, indicator-ne}
+use Rattle.hash.proofs.Indicators.{indicator-ne}
 use Rattle.hash.proofs.Members.{codes-tail}
 use Rattle.table.specs.TwoLevel.{tabulate}
 use Rattle.table.proofs.Tabulate.{tabulate-at, tabulate-zeros, tabulate-set}
 use Rattle.search.specs.Placed.{placed}
 use Rattle.search.specs.Cells.{Placing}
+use Rattle.search.proofs.PlacedLaws.{placed-here, placed-later, placed-none}
 use Rattle.search.proofs.Ends.{drop-before, together-drop}
 
 codes-drop : {p : ℕ} (s : List ℕ) (i : ℕ) → Codes p s → Codes p (drop i s)
@@ -29,35 +27,18 @@ codes-drop (a ∷ s) (suc i) c = codes-drop s i (codes-tail c)
 -- ---- what a cell holds
 
 module _ (p q w : ℕ) where
-  placed-own : (a : ℕ) (s : List ℕ) (t : ℕ) → t ≡ hashOf p q w a → placed p q w (a ∷ s) t ≡ a
-  unfolding placed
-  placed-own a s t own = rw (eq-eqb (hashOf p q w a) t (sym own))
-
-  placed-other : (a : ℕ) (s : List ℕ) (t : ℕ) → (t ≡ hashOf p q w a → ⊥) → placed p q w (a ∷ s) t ≡ placed p q w s t
-  unfolding placed
-  placed-other a s t away = rw (ne-eqb (hashOf p q w a) t (λ e. away (sym e)))
-
-  -- it is 0 exactly where no code belongs
-  load-placed : (s : List ℕ) (t : ℕ) → load p q w t s ≡ 0 → placed p q w s t ≡ 0
-  unfolding placed load
-  load-placed [] t none = refl
-  load-placed (a ∷ s) t none =
-      elim (ℕ-discrete t (hashOf p q w a)) [
-        | yes e ↦ absurd (omega (arith, indicator-eq (hashOf p q w a) t (sym e)))
-        | no ne ↦ placed-other a s t ne ∙ load-placed s t (omega arith)
-      ]
-
+  -- a cell that holds 0 is one where no code belongs
   placed-load : {P : ℕ} (s : List ℕ) (t : ℕ) → Codes P s → placed p q w s t ≡ 0 → load p q w t s ≡ 0
   unfolding load
   placed-load [] t c zero-held = refl
   placed-load (a ∷ s) t c zero-held =
-      elim (ℕ-discrete t (hashOf p q w a)) [
-        | yes e ↦ absurd (omega (arith, placed-own a s t e, c .positive 0 (omega arith)))
+      elim (ℕ-discrete (hashOf p q w a) t) [
+        | yes e ↦ absurd (omega (arith, placed-here p q w a s t e, c .positive 0 (omega arith)))
         | no ne ↦
             omega (
               arith,
-              indicator-ne (hashOf p q w a) t (λ e. ne (sym e)),
-              placed-load s t (codes-tail c) (sym (placed-other a s t ne) ∙ zero-held),
+              indicator-ne (hashOf p q w a) t ne,
+              placed-load s t (codes-tail c) (sym (placed-later p q w a s t ne) ∙ zero-held),
             )
       ]
 
@@ -67,14 +48,14 @@ module _ (p q w : ℕ) where
   store : (a : ℕ) (s : List ℕ) (t : ℕ) → t ≡ hashOf p q w a → t < w
       → set (tabulate (placed p q w s) w) t a ≡ tabulate (placed p q w (a ∷ s)) w
   store a s t own l =
-      ap (λ (x : ℕ). set (tabulate (placed p q w s) w) t x) (sym (placed-own a s t own))
-      ∙ tabulate-set (placed p q w s) (placed p q w (a ∷ s)) w t l (λ j h ne. placed-other a s j (λ e. ne (e ∙ sym own)))
+      ap (λ (x : ℕ). set (tabulate (placed p q w s) w) t x) (sym (placed-here p q w a s t (sym own)))
+      ∙ tabulate-set (placed p q w s) (placed p q w (a ∷ s)) w t l (λ j h ne. placed-later p q w a s j (λ e. ne (sym e ∙ sym own)))
 
   take-out : (a : ℕ) (s : List ℕ) (t : ℕ) → t ≡ hashOf p q w a → t < w → load p q w t s ≡ 0
       → set (tabulate (placed p q w (a ∷ s)) w) t 0 ≡ tabulate (placed p q w s) w
   take-out a s t own l none =
-      ap (λ (x : ℕ). set (tabulate (placed p q w (a ∷ s)) w) t x) (sym (load-placed s t none))
-      ∙ tabulate-set (placed p q w (a ∷ s)) (placed p q w s) w t l (λ j h ne. sym (placed-other a s j (λ e. ne (e ∙ sym own))))
+      ap (λ (x : ℕ). set (tabulate (placed p q w (a ∷ s)) w) t x) (sym (placed-none p q w s t none))
+      ∙ tabulate-set (placed p q w (a ∷ s)) (placed p q w s) w t l (λ j h ne. sym (placed-later p q w a s j (λ e. ne (sym e ∙ sym own))))
 
 -- ---- the loop that places
 
@@ -114,12 +95,8 @@ module _ {p q w : ℕ} {block cells : List ℕ} {i : ℕ} (h : Placing p q w blo
     unfolding together
     placing-stop taken none =
         taken
-        (at-cell ∙ load-placed p q w (drop i block) t
-        (omega (
-          arith,
-          together-drop p q w block (i - 1),
-          rw (drop-before block i pos (h .left), ← own) at (together-drop p q w block (i - 1)),
-        )))
+        (at-cell ∙ placed-none p q w (drop i block) t
+        (omega (arith, rw (drop-before block i pos (h .left), ← own) at (together-drop p q w block (i - 1)))))
 
   pub placing-all : i ≤ 0 → (together p q w block ≡ 0) × (cells ≡ tabulate (placed p q w block) w)
   placing-all end =

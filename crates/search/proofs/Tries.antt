@@ -1,6 +1,6 @@
 -- A search that tries the multipliers 1, 2, 3, .. by a test. Those before k failed; since some multiplier below p passes, a k that fails
 -- has one after it, and the first that passes is the least. So the search needs no end of its own.
-use Prim.Native.Nat.{ℕ, suc, _+_, _<_, _≤_}
+use Prim.Native.Nat.{ℕ, _+_, _<_, _≤_}
 use native.Mathlib.Decide.{ℕ-discrete, decLt}
 use native.Mathlib.Omega.{arith}
 use mathlib.Core.Bool.{Bool, true, false, true≢false}

@@ -1,5 +1,4 @@
 // The least multiplier k of a list: each k is tried by counting the codes of its blocks.
-ghost use Prim.Native.Nat.{_<_, _≤_};
 ghost use mathlib.Core.Path.{_≡_};
 ghost use Rattle.search.specs.Searchable.{Searchable};
 ghost use Rattle.search.specs.Blocks.{Countable, LeastBlocks, countOf};

@@ -1,7 +1,7 @@
 // The least multiplier q of a block: each q is tried by placing the block's codes in its own cells, which serve as marks.
 ghost use Prim.Native.Nat.{_<_};
 ghost use mathlib.Core.Path.{_≡_};
-ghost use lib.ListN.{length, replicate};
+ghost use lib.ListN.{replicate};
 ghost use Rattle.search.specs.Cells.{Unplaced, Placing, Tried, LeastCells};
 
 // Takes the codes from `from` on out of their w cells again, which are then all 0.

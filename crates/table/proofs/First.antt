@@ -12,7 +12,7 @@ use borrow.Author.Count.{below-more}
 use borrow.Author.Tests.{lt-ltb, le-ltb, ltb-false}
 use lib.Dec.{ltb}
 use Rattle.table.specs.Answers.{firstOf}
-use Rattle.table.proofs.Laws.{true-or-false}
+use Rattle.hash.proofs.Indicators.{true-or-false}
 
 -- the test fails below i
 abbrev pub Below : (ℕ → Bool) → ℕ → Type 0

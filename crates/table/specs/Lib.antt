@@ -6,3 +6,4 @@ pub mod Lookup
 pub mod Panel
 pub mod Sized
 pub mod Found
+pub mod Fired

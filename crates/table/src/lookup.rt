@@ -1,6 +1,6 @@
 // Looking a code up (document 01, "Look up"). Of the table it reads n, c, k, the start and the end of the code's block, its q, and
 // the code and schedule of one cell.
-ghost use Prim.Native.Nat.{_+_, _<_, _≤_};
+ghost use Prim.Native.Nat.{_≤_};
 ghost use mathlib.Core.Path.{_≡_};
 ghost use Rattle.table.specs.Lookup.{inCell, inBlock, lookupOf};
 ghost use Rattle.table.specs.Sized.{Block, Cell};

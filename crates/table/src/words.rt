@@ -1,7 +1,8 @@
-// The words of a table, each test and each place of document 01 by itself. The sums are taken in usize, which holds them for any words.
-ghost use Prim.Native.Nat.{_+_, _*_, _-_, _<_, _≤_};
+// The words of a table, each test and each place of document 01 by itself, for lookup here and for the crates above. The sums are taken in
+// usize, which holds them for any words.
+ghost use Prim.Native.Nat.{_<_, _≤_};
 ghost use mathlib.Core.Path.{_≡_};
-ghost use lib.ListN.{length, getD};
+ghost use lib.ListN.{length};
 ghost use Rattle.table.specs.Answers.{outside};
 ghost use Rattle.table.specs.Words.{codeCount, total, blockStart, blockEnd, blockMultiplier, cellCode, cellSchedule, blockOf, cellIn};
 ghost use Rattle.table.specs.Lookup.{tooManyCodes, tooManyCells, badMultiplier, tooShort, badSizes};

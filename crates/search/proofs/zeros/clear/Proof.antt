@@ -1,6 +1,6 @@
 -- `search::zeros::clear` meets its contract. The loop's invariant: the first i words are 0 and those after them as they were. The
 -- measure is what is left of the length. Assumes nothing.
-use Prim.Native.Nat.{ℕ, _+_, _-_, _≤_}
+use Prim.Native.Nat.{ℕ, _-_, _≤_}
 use mathlib.Core.List.{List, _++_, append-nil}
 use mathlib.Core.Path.{_≡_, refl, ap, _∙_}
 use native.Mathlib.Omega.{arith}
@@ -11,9 +11,9 @@ use lib.Seq.{drop-length}
 use Rattle.search.proofs.zeros.clear.Statement.{statement}
 use Rattle.search.proofs.zeros.clear.Tie as tie
 
-fill-all : (old : List ℕ) {new : List ℕ} (i : ℕ) → i ≡ length old → new ≡ replicate i 0 ++ drop i old → new ≡ replicate (length old) 0
-fill-all old i e full =
-    full ∙ ap (λ (n : ℕ). replicate n 0 ++ drop n old) e ∙ ap (λ (l : List ℕ). replicate (length old) 0 ++ l) (drop-length old) ∙ append-nil (replicate (length old) 0)
+fill-all :
+    (old : List ℕ) {new : List ℕ} (i : ℕ) → i ≡ length old → new ≡ replicate i 0 ++ drop i old → new ≡ replicate (length old) 0
+fill-all old i e full = full ∙ rw (e, drop-length old) (append-nil (replicate (length old) 0))
 
 abbrev Inv-loop : tie.InvT-loop
 Inv-loop words₀ i₀ words i =
@@ -25,30 +25,26 @@ abbrev μ-loop : tie.MeasureT-loop
 loop-holds : tie.Need-loop-holds Inv-loop μ-loop
 loop-holds c = (refl, omega arith, refl)
 
-mul-words : tie.Need-mul-words Inv-loop μ-loop
-mul-words c = search needs
-
-slice-write-words : tie.Need-slice-write-words Inv-loop μ-loop
-slice-write-words c = search needs
-
-add-i : tie.Need-add-i Inv-loop μ-loop
-add-i c = search needs
-
-loop-less : tie.Need-loop-less Inv-loop μ-loop
-loop-less c = search needs
-
 loop-again : tie.Need-loop-again Inv-loop μ-loop
 loop-again c =
     let h = c .before .loop in
     let full = fill-more (h .i) 0 (c .before .before .args .words .now) (omega arith) in
     (ap (λ (l : List ℕ). set l (h .i) 0) (h .inv .0) ∙ full, omega arith, length-set (h .words) (h .i) 0 ∙ h .inv .2)
 
-same-length : tie.Need-same-length Inv-loop μ-loop
-same-length c = search needs
-
 returns : tie.Need-returns Inv-loop μ-loop
 returns c = fill-all (c .before .before .args .words .now) (c .before .loop .i) (omega arith) (c .before .loop .inv .0)
 
 pub clear-spec : {M : Type 1} → statement M
 clear-spec =
-    tie.close (tie.spec Inv-loop μ-loop loop-holds mul-words slice-write-words add-i loop-less loop-again same-length returns)
+    tie.close
+    (tie.spec
+    Inv-loop
+    μ-loop
+    loop-holds
+    (λ c. search needs)
+    (λ c. omega arith)
+    (λ c. omega arith)
+    (λ c. omega arith)
+    loop-again
+    (λ c. omega arith)
+    returns)

@@ -1,10 +1,12 @@
 -- `table::lookup::lookup_at` meets its contract: its tests are the definition's, in the same order.
 -- Assumes nothing.
 use mathlib.Core.Path.{_∙_, sym}
+use native.Mathlib.Omega.{arith}
 use borrow.Author.Needs.{needs}
-use borrow.Author.Tests.{lt-ltb, le-ltb, eq-eqb, ne-eqb}
+use borrow.Author.Tests.{lt-ltb, le-ltb}
 use Rattle.table.specs.Lookup.{lookupOf}
-use Rattle.table.proofs.Laws.{tests, sized}
+use Rattle.table.proofs.Laws.{sized}
+use Rattle.table.proofs.Steps.{lookup-none, lookup-block}
 use Rattle.table.proofs.lookup.lookup_at.Statement.{statement}
 use Rattle.table.proofs.lookup.lookup_at.Tie as tie
 
@@ -21,20 +23,15 @@ returns-2 c =
 returns-3 : tie.Need-returns-3
 unfolding lookupOf
 returns-3 c =
-    let r = c .before .before .before in
-    rw (sym (r .before .outside .ensures) ∙ r .if1 .left, le-ltb _ _ (c .before .before .if2 .left), sym (c .before .bad-sizes .ensures) ∙ c .if3 .taken)
+    let s = c .before .before in
+    let r = s .before in
+    rw (sym (r .before .outside .ensures) ∙ r .if1 .left, le-ltb _ _ (s .if2 .left), sym (c .before .bad-sizes .ensures) ∙ c .if3 .taken)
 
 returns-4 : tie.Need-returns-4
-unfolding lookupOf
 returns-4 c =
     let s = c .before .before in
     let r = s .before .before .before in
-    rw (
-      sym (r .before .outside .ensures) ∙ r .if1 .left,
-      le-ltb _ _ (s .before .before .if2 .left),
-      sym (s .before .bad-sizes .ensures) ∙ s .if3 .left,
-      eq-eqb _ _ (c .if4 .taken),
-    )
+    sym (lookup-none _ _ _ _ (sym (r .before .outside .ensures) ∙ r .if1 .left) (omega arith) (sym (s .before .bad-sizes .ensures) ∙ s .if3 .left) (c .if4 .taken))
 
 in-block-requires : tie.Need-in-block-requires
 in-block-requires c κs =
@@ -42,19 +39,13 @@ in-block-requires c κs =
     (search needs, record { whole = sized (sym (s .before .bad-sizes .ensures) ∙ s .if3 .left) .whole; below = c .block-of .ensures .range })
 
 returns-5 : tie.Need-returns-5
-unfolding lookupOf
 returns-5 c =
     let t = c .before .before in
     let s = t .before .before in
     let r = s .before .before .before in
     c .in-block .ensures ∙
-    rw (
-      c .before .block-of .ensures .value,
-      sym (r .before .outside .ensures) ∙ r .if1 .left,
-      le-ltb _ _ (s .before .before .if2 .left),
-      sym (s .before .bad-sizes .ensures) ∙ s .if3 .left,
-      ne-eqb _ _ (t .if4 .left),
-    )
+    rw (c .before .block-of .ensures .value)
+    (sym (lookup-block _ _ _ _ (sym (r .before .outside .ensures) ∙ r .if1 .left) (omega arith) (sym (s .before .bad-sizes .ensures) ∙ s .if3 .left) (t .if4 .left)))
 
 pub lookup-at-spec : {M : Type 1} → statement M
 lookup-at-spec =

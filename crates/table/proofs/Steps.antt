@@ -1,0 +1,32 @@
+-- The answers of a lookup past the tests that it passes, over plain words: from the sizes to the code's block, and from the block to its cell.
+-- Assumes nothing.
+use Prim.Native.Nat.{ℕ, _-_, _≤_}
+use mathlib.Core.Bool.{false}
+use mathlib.Core.List.{List}
+use mathlib.Core.Path.{_≡_}
+use borrow.Author.Tests.{le-ltb, eq-eqb, ne-eqb}
+use lib.ListN.{length}
+use Rattle.table.specs.Answers.{absent, refuse, outside}
+use Rattle.table.specs.Words.{codeCount, cellCount, blockStart, blockEnd, blockMultiplier, blockOf, cellIn}
+use Rattle.table.specs.Lookup.{badSizes, inCell, inBlock, lookupOf}
+
+module _ (p limit : ℕ) (words : List ℕ) (code : ℕ) (range : outside 1 (p - 1) code ≡ false) (three : 3 ≤ length words)
+    (sizes : badSizes p limit words ≡ false) where
+  pub lookup-none : codeCount words ≡ 0 → lookupOf p limit words code ≡ absent
+  unfolding lookupOf
+  lookup-none none = rw (range, le-ltb _ _ three, sizes, eq-eqb _ _ none)
+
+  pub lookup-block : (codeCount words ≡ 0 → ⊥) → lookupOf p limit words code ≡ inBlock p words code (blockOf p words code)
+  unfolding lookupOf
+  lookup-block some = rw (range, le-ltb _ _ three, sizes, ne-eqb _ _ some)
+
+module _ (p : ℕ) (words : List ℕ) (code j : ℕ) (rises : blockStart words j ≤ blockEnd words j) (within : blockEnd words j ≤ cellCount words) where
+  pub block-none : blockStart words j ≡ blockEnd words j → inBlock p words code j ≡ absent
+  unfolding inBlock
+  block-none none = rw (le-ltb _ _ rises, le-ltb _ _ within, eq-eqb _ _ none)
+
+  pub block-cell :
+      (blockStart words j ≡ blockEnd words j → ⊥)
+      → inBlock p words code j ≡ refuse (outside 1 (p - 1) (blockMultiplier words j)) 34 0 (inCell words code (cellIn p words j code))
+  unfolding inBlock
+  block-cell some = rw (le-ltb _ _ rises, le-ltb _ _ within, ne-eqb _ _ some)
