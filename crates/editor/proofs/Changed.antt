@@ -11,11 +11,14 @@ use mathlib.Core.Path.{_≡_, refl, sym, ap, _∙_}
 use borrow.Author.Tests.{eq-eqb, ne-eqb, eqb-true, eqb-false, lt-ltb, le-ltb}
 use lib.Dec.{eqb, ltb}
 use lib.ListN.{length, getD}
+use lib.Seq.{take-length}
 use Rattle.hash.specs.Hash.{Codes}
 use Rattle.hash.proofs.Members.{mem-at, codes-nil, codes-cons, codes-tail, codes-new}
 use Rattle.table.proofs.First.{First}
 use Rattle.audit.specs.Pairs.{Pair, codesOf}
 use Rattle.builder.specs.Build.{among}
+use Rattle.builder.proofs.Among.{among-at}
+use Rattle.builder.proofs.Valid.{among-none}
 use Rattle.editor.specs.Edit.{without, withPair}
 use Rattle.editor.specs.Lists.{omit}
 
@@ -41,20 +44,16 @@ module _ (code : ℕ) where
 
   -- ---- whether it is among them
 
-  pub among-at : (codes : List ℕ) (i : ℕ) → At code codes i → among code codes ≡ ltb i (length codes)
-  unfolding among
-  among-at [] i f = sym (le-ltb i 0 (omega arith))
-  among-at (x ∷ codes) zero f =
-      rw (eq-eqb code x (sym (at-here x codes f))) (sym (lt-ltb 0 (length (x ∷ codes)) (omega arith)))
-  among-at (x ∷ codes) (suc i) f =
-      rw (ne-eqb code x (λ e. at-later x codes i f (sym e))) (among-at codes i (at-tail x codes i f) ∙ ltb-suc i (length codes))
-    where
-      ltb-suc : (a b : ℕ) → ltb a b ≡ ltb (suc a) (suc b)
-      ltb-suc a b =
-          elim (decLt a b) [
-            | yes l ↦ lt-ltb a b l ∙ sym (lt-ltb (suc a) (suc b) (omega arith))
-            | no g ↦ le-ltb a b (omega arith) ∙ sym (le-ltb (suc a) (suc b) (omega arith))
-          ]
+  pub among-index : (codes : List ℕ) (i : ℕ) → At code codes i → among code codes ≡ ltb i (length codes)
+  among-index codes i f =
+      elim (decLt i (length codes)) [
+        | yes l ↦
+            (rw (take-length codes) at (among-at code codes i (length codes) l (omega arith) (eqb-true (getD codes i 0) code (f .holds l))))
+            ∙ sym (lt-ltb i (length codes) l)
+        | no g ↦
+            among-none code codes (λ j l. eqb-false (getD codes j 0) code (f .below j (omega arith)))
+            ∙ sym (le-ltb i (length codes) (omega arith))
+      ]
 
   -- ---- the pairs without it
 

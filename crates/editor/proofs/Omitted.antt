@@ -9,7 +9,7 @@ use mathlib.Core.List.{List, [], _∷_, _++_, map}
 use mathlib.Core.Logic.{inl, inr}
 use mathlib.Core.Path.{_≡_, refl, sym, ap, _∙_}
 use lib.ListN.{length, getD, set, take, drop, length-set, take-append-drop}
-use lib.Seq.{take-append-seam}
+use lib.Seq.{take-append-seam, take-take, take-set-lt, getD-take, length-take-le}
 use Rattle.editor.specs.Lists.{omit}
 
 module _ {A : Type 0} where
@@ -99,12 +99,12 @@ pub gap-start : (old : List ℕ) (i : ℕ) → i < length old → Gap old i old 
 gap-start old i l = record { left = refl; long = refl; within = l }
 
 module _ {old : List ℕ} {i : ℕ} {list : List ℕ} {gap : ℕ} (g : Gap old i list gap) where
-  pub gap-up : gap + 1 < length list → Gap old i (set list gap (getD list (gap + 1) 0)) (gap + 1)
+  pub gap-up : gap + 1 < length old → Gap old i (set list gap (getD list (gap + 1) 0)) (gap + 1)
   gap-up l =
       record {
-        left = rw (add-one gap) (omit-up list gap 0 (omega arith) ∙ g .left);
+        left = rw (add-one gap) (omit-up list gap 0 (omega (arith, g .long)) ∙ g .left);
         long = length-set list gap (getD list (gap + 1) 0) ∙ g .long;
-        within = omega (arith, g .long);
+        within = l;
       }
 
   pub gap-down : 0 < gap → Gap old i (set list gap (getD list (gap - 1) 0)) (gap - 1)
@@ -121,12 +121,38 @@ module _ {old : List ℕ} {i : ℕ} {list : List ℕ} {gap : ℕ} (g : Gap old i
       }
 
   -- at the end, and at the front
-  pub gap-last : length list ≤ gap + 1 → take (length old - 1) list ≡ omit i old
-  gap-last l =
-      let at : length old - 1 ≡ gap = omega (arith, g .long, g .within) in
-      rw at (omit-last list gap (omega (arith, g .long, g .within)) ∙ g .left)
+  gap-last : length old ≤ gap + 1 → take gap list ≡ omit i old
+  gap-last l = omit-last list gap (omega (arith, g .long, g .within)) ∙ g .left
 
   pub gap-first : (a : ℕ) → gap ≤ 0 → set list 0 a ≡ a ∷ omit i old
   gap-first a z =
       let at : gap ≡ 0 = omega arith in
       omit-first list a (omega (arith, g .long, g .within)) ∙ ap (λ (r : List ℕ). a ∷ r) (rw at at (g .left))
+
+-- the same in the first n elements of a list
+pub record Front (old : List ℕ) (n i : ℕ) (list : List ℕ) (gap : ℕ) : Type 0 where
+  pub gaps : Gap (take n old) i (take n list) gap
+  pub whole : length list ≡ length old
+  pub within : gap < n
+
+module _ {old : List ℕ} {n i : ℕ} (fits : n ≤ length old) where
+  pub front-start : i < n → Front old n i old i
+  front-start l = record { gaps = gap-start (take n old) i (rw (length-take-le n old fits) l); whole = refl; within = l }
+
+  module _ {list : List ℕ} {gap : ℕ} (f : Front old n i list gap) where
+    pub front-up : gap + 1 < n → Front old n i (set list gap (getD list (gap + 1) 0)) (gap + 1)
+    front-up l =
+        record {
+          gaps =
+              rw (take-set-lt n list gap (getD list (gap + 1) 0) (f .within), ← getD-take n list (gap + 1) 0 l)
+              (gap-up (f .gaps) (rw (length-take-le n old fits) l));
+          whole = length-set list gap (getD list (gap + 1) 0) ∙ f .whole;
+          within = l;
+        }
+
+    pub front-last : n ≤ gap + 1 → take (n - 1) list ≡ omit i (take n old)
+    front-last l =
+        let at : n - 1 ≡ gap = omega (arith, f .within) in
+        rw at
+        (sym (take-take gap n list (omega (arith, f .within)))
+        ∙ gap-last (f .gaps) (omega (arith, length-take-le n old fits)))

@@ -1,5 +1,5 @@
 // One list of an old table, changed in place.
-ghost use Prim.Native.Nat.{_-_, _<_};
+ghost use Prim.Native.Nat.{_-_, _<_, _≤_};
 ghost use mathlib.Core.List.{_∷_};
 ghost use mathlib.Core.Path.{_≡_};
 ghost use lib.Dec.{eqb};
@@ -34,13 +34,13 @@ pub fn put_first(list: &mut [u32], i: usize, first: u32)
     list[0] = first;
 }
 
-// Leaves out the element with index i: those after it move down by one, and the last place is kept.
-pub fn leave_out(list: &mut [u32], i: usize)
-    requires { ⌜ i < length (now list) ⌝ }
-    ensures { λ _. ⌜ take (length (now (list .entry)) - 1) (now (list .exit)) ≡ omit i (now (list .entry)) ⌝ }
+// Leaves out the element with index i of the first n: those after it move down by one. Later places are kept.
+pub fn leave_out(list: &mut [u32], n: usize, i: usize)
+    requires { ⌜ (i < n) × (n ≤ length (now list)) ⌝ }
+    ensures { λ _. ⌜ take (n - 1) (now (list .exit)) ≡ omit i (take n (now (list .entry))) ⌝ }
 {
     let mut gap = i;
-    while gap + 1 < list.len() {
+    while gap + 1 < n {
         list[gap] = list[gap + 1];
         gap += 1;
     }
