@@ -1,5 +1,6 @@
 -- What the proofs of the functions cite, by topic.
 pub mod Among
+pub mod Valid
 mod Chains
 mod Groups
 mod Parts

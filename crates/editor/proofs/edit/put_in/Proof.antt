@@ -1,0 +1,111 @@
+-- `editor::edit::put_in` meets its contract. The arrays begin with the table's pairs, so that the code's index among them decides 53, and
+-- after it is put first they begin with the changed pairs.
+-- Assumes nothing.
+use Prim.Native.Nat.{_<_, _≤_}
+use mathlib.Core.Path.{_≡_, sym, _∙_}
+use native.Mathlib.Omega.{arith}
+use borrow.Author.Needs.{needs}
+use lib.Seq.{length-take-le}
+use Rattle.editor.proofs.Edits.{Indexed, indexed, refusal, full, room-left, put-few, put-listable, put-outcome}
+use Rattle.editor.proofs.edit.put_in.Statement.{statement}
+use Rattle.editor.proofs.edit.put_in.Tie as tie
+
+abbrev root : tie.After-position → tie.Start
+root c = c .before .before .before .before .before .before .before .before .before .before .before
+
+-- the code's index among the pairs that are written
+found :
+    (c : tie.After-position)
+    → Indexed (root c .args .p) (root c .args .limit) (root c .args .words .now)
+    (c .before .before .before .before .before .before .write-pairs .last .1 .0)
+    (c .before .before .before .before .before .before .write-pairs .last .1 .1 .0) (c .before .before .wide .result) (root c .args .code)
+    (c .position .result)
+found c =
+    indexed _ _ _ (root c .pre .0 .1 .1) (c .before .before .wide .ensures .value)
+    (c .before .before .before .before .before .before .write-pairs .ensures) (c .position .ensures)
+
+-- it is in the table, or the table is not full
+room : (c : tie.Else1) → c .before .before .position .result ≡ root (c .before .before) .args .limit → ⊥
+room c e = c .if1 .left (e ∙ sym (c .before .wide2 .ensures .value))
+
+small : (c : tie.Else1) → c .before .before .position .result < 2048
+small c = omega (arith, room-left (found (c .before .before)) (room c), root (c .before .before) .pre .0 .1 .0)
+
+slice-aggregate-position : tie.Need-slice-aggregate-position
+slice-aggregate-position c = sym (length-take-le _ _ (search needs))
+
+returns : tie.Need-returns
+returns c = refusal 53 0 (full (found (c .before .before)) _ _ (c .if1 .taken ∙ c .before .wide2 .ensures .value))
+
+put-first-requires : tie.Need-put-first-requires
+put-first-requires c κs = omega (arith, small (c .before))
+
+put-first-requires-2 : tie.Need-put-first-requires-2
+put-first-requires-2 c κs = omega (arith, small (c .before .before .before .before))
+
+few : (c : tie.After-grown) → c .grown .result ≤ 2048
+few c =
+    let e = c .before .before .before .before .before .before .before in
+    omega (
+      arith,
+      put-few (found (e .before .before)) (room e) _ _ _ _ (c .grown .ensures) (c .before .before .before .before .before .put-first .ensures)
+          (c .before .before .put-first2 .ensures),
+      root (e .before .before) .pre .0 .1 .0,
+    )
+
+array-share-prefix-codes-2 : tie.Need-array-share-prefix-codes-2
+array-share-prefix-codes-2 c = omega (arith, few c)
+
+slice-aggregate-rebuild : tie.Need-slice-aggregate-rebuild
+slice-aggregate-rebuild c = sym (length-take-le _ _ (omega (arith, few (c .before))))
+
+array-share-prefix-schedules : tie.Need-array-share-prefix-schedules
+array-share-prefix-schedules c = omega (arith, few (c .before))
+
+slice-aggregate-rebuild-2 : tie.Need-slice-aggregate-rebuild-2
+slice-aggregate-rebuild-2 c = sym (length-take-le _ _ (omega (arith, few (c .before .before))))
+
+rebuild-requires : tie.Need-rebuild-requires
+rebuild-requires c κs =
+    let g = c .before .before .before in
+    let e = g .before .before .before .before .before .before .before in
+    let s = root (e .before .before) in
+    (s .pre .0 .0,
+    (s .pre .0 .1 .0,
+    put-listable (found (e .before .before)) (room e) _ _ _ _ (g .grown .ensures) (g .before .before .before .before .before .put-first .ensures)
+    (g .before .before .put-first2 .ensures) (s .pre .1 .0) (s .pre .1 .1 .0) (s .pre .1 .1 .1 .0) (s .pre .1 .1 .1 .1)))
+
+returns-2 : tie.Need-returns-2
+returns-2 c =
+    let g = c .before .before .before .before .before .before in
+    let e = g .before .before .before .before .before .before .before in
+    put-outcome (found (e .before .before)) (room e) _ _ _ _ (g .grown .ensures) (g .before .before .before .before .before .put-first .ensures)
+    (g .before .before .put-first2 .ensures) _
+    (c .before .before .rebuild .ensures)
+
+pub put-in-spec : {M : Type 1} → statement M
+put-in-spec =
+    tie.close
+    (tie.spec
+    (λ c. search needs)
+    (λ c. search needs)
+    (λ c κs. search needs)
+    (λ c. search needs)
+    (λ c κs. search needs)
+    (λ c. search needs)
+    slice-aggregate-position
+    (λ c κs. search needs)
+    (λ c κs. search needs)
+    returns
+    (λ c. search needs)
+    put-first-requires
+    (λ c. search needs)
+    put-first-requires-2
+    (λ c κs. search needs)
+    array-share-prefix-codes-2
+    slice-aggregate-rebuild
+    array-share-prefix-schedules
+    slice-aggregate-rebuild-2
+    rebuild-requires
+    (λ c. search needs)
+    returns-2)

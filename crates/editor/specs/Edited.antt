@@ -1,0 +1,48 @@
+-- The paper's number and values of each case of an edit's answer; then what the parts of the code promise.
+use Prim.Native.Nat.{ℕ}
+use mathlib.Core.Bool.{not, _&&_}
+use mathlib.Core.List.{List, [], _∷_}
+use mathlib.Core.Path.{_≡_}
+use lib.Dec.{eqb, ltb}
+use Rattle.table.specs.Answers.{Answer, given, refused, refuse, filled}
+use Rattle.table.specs.Words.{codeCount}
+use Rattle.table.specs.TwoLevel.{wordsNeeded}
+use Rattle.audit.specs.Checked.{checkedOf}
+use Rattle.audit.specs.Pairs.{pairsIn}
+use Rattle.builder.specs.Build.{listOr}
+use Rattle.editor.specs.Edit.{without, withPair, present, rebuilt}
+use Rattle.editor.specs.declared.edit.Edited.{Edited}
+use Rattle.editor.specs.declared.edit.Edited.the-variants.{Rebuilt, CodeOutOfRange, ScheduleOutOfRange, Full, TooShort, NotThere, Refused}
+
+abbrev pub editedOf : Edited → Answer
+editedOf (Rebuilt total) = given (total ∷ [])
+editedOf CodeOutOfRange = refused 51 0
+editedOf ScheduleOutOfRange = refused 52 0
+editedOf Full = refused 53 0
+editedOf (TooShort total) = refused 54 total
+editedOf NotThere = refused 55 0
+editedOf (Refused checked) = checkedOf checked
+
+-- from 54 on, where a list of these codes is built into this many lent words
+unfoldable pub fromTotal : ℕ → List ℕ → ℕ → Answer
+fromTotal p codes lent = refuse (ltb lent (wordsNeeded p codes)) 54 (wordsNeeded p codes) (given (wordsNeeded p codes ∷ []))
+
+-- from 53 on, for the pairs of an accepted table
+unfoldable pub fromFull : ℕ → ℕ → List ℕ → ℕ → ℕ → ℕ → Answer
+unfolding withPair present rebuilt
+fromFull p limit words code schedule lent =
+    refuse (not (present words code) && eqb (codeCount words) limit) 53 0 (rebuilt p (withPair code schedule (pairsIn words)) lent)
+
+-- from 55 on
+unfoldable pub fromThere : ℕ → List ℕ → ℕ → ℕ → Answer
+unfolding without present rebuilt
+fromThere p words code lent = refuse (not (present words code)) 55 0 (rebuilt p (without code (pairsIn words)) lent)
+
+-- an answer is the expected one, and the second buffer is filled by it
+pub record Outcome (expected : Answer) (table second : List ℕ) (answer : Answer) (second′ : List ℕ) : Type 0 where
+  pub answers : answer ≡ expected
+  pub second-at-exit : second′ ≡ filled expected table second
+
+-- a list that none of 1 to 5 refuses
+pub record Listable (p limit : ℕ) (codes schedules : List ℕ) : Type 0 where
+  pub passes : (rest : Answer) → listOr p limit codes schedules rest ≡ rest

@@ -1,0 +1,155 @@
+// Putting one code in and taking one out, into a second buffer (document 01, "Put in, take out"). The old table is read only.
+ghost use Prim.Native.Nat.{_+_, _-_, _<_, _≤_};
+ghost use mathlib.Core.Bool.{cond};
+ghost use mathlib.Core.Path.{_≡_};
+ghost use lib.Dec.{eqb};
+ghost use lib.ListN.{length};
+ghost use Rattle.hash.specs.Theorems.{Prime};
+ghost use Rattle.table.specs.TwoLevel.{tableOf};
+ghost use Rattle.audit.specs.Pairs.{pairsIn};
+ghost use Rattle.audit.specs.WellFormed.{WellFormed};
+ghost use Rattle.editor.specs.Edit.{without, withPair, tableOfPairs, Inserted, Removed};
+ghost use Rattle.editor.specs.Edited.{editedOf, fromTotal, fromFull, fromThere, Outcome, Listable};
+use crate::lists::leave_out;
+use crate::lists::position;
+use crate::lists::put_first;
+use audit::check::check_at;
+use audit::check::Checked;
+use audit::pairs::write_pairs;
+use builder::build::build_at;
+use builder::build::BuildAnswer;
+use table::words::outside;
+use table::words::wide;
+
+// The most pairs that the local arrays hold.
+const ROOM: usize = 2048;
+
+pub enum Edited {
+    // the new total
+    Rebuilt(u32),
+    // 51
+    CodeOutOfRange,
+    // 52
+    ScheduleOutOfRange,
+    // 53
+    Full,
+    // 54, with the new total
+    TooShort(u32),
+    // 55
+    NotThere,
+    // 11 to 21, of the old table
+    Refused(Checked),
+}
+
+// From 54 on: builds a changed list.
+fn rebuild(p: u32, limit: u32, codes: &[u32], schedules: &[u32], second: &mut [u32]) -> Edited
+    requires { ⌜ (Prime p) × ((limit ≤ 2048) × Listable p limit (now codes) (now schedules)) ⌝ }
+    ensures { λ r. ⌜ Outcome (fromTotal p (now (codes .entry)) (length (now (second .entry)))) (tableOf p (now (codes .entry)) (now (schedules .entry))) (now (second .entry)) (editedOf r) (now (second .exit)) ⌝ }
+{
+    let built = build_at(p, limit, codes, schedules, second);
+    match built {
+        BuildAnswer::Built(total) => Edited::Rebuilt(total),
+        BuildAnswer::TooShort(total) => Edited::TooShort(total),
+        // none of 1 to 5 holds
+        _ => Edited::Full,
+    }
+}
+
+// The pairs that there are with the code, whose index is n where it is new.
+fn grown(n: usize, i: usize) -> usize
+    requires { ⌜ n < 4294967296 ⌝ }
+    ensures { λ r. ⌜ r ≡ cond (eqb i n) (n + 1) n ⌝ }
+{
+    if i == n {
+        return n + 1;
+    }
+    n
+}
+
+// From 53 on: puts a pair first in the lists of an accepted table, in place of the code's own.
+fn put_in(p: u32, limit: u32, words: &[u32], code: u32, schedule: u32, second: &mut [u32]) -> Edited
+    requires { ⌜ (Prime p) × ((limit ≤ 2048) × WellFormed p limit (now words)) ⌝ }
+    requires { ⌜ (1 ≤ code) × ((code < p) × ((1 ≤ schedule) × (schedule ≤ 999))) ⌝ }
+    ensures { λ r. ⌜ Outcome (fromFull p limit (now (words .entry)) code schedule (length (now (second .entry)))) (tableOfPairs p (withPair code schedule (pairsIn (now (words .entry))))) (now (second .entry)) (editedOf r) (now (second .exit)) ⌝ }
+{
+    let mut codes = [0u32; ROOM];
+    let mut schedules = [0u32; ROOM];
+    write_pairs(words, &mut codes, &mut schedules);
+    let n = wide(words[0]);
+    let i = position(&codes[..n], code);
+    if i == wide(limit) {
+        return Edited::Full;
+    }
+    put_first(&mut codes, i, code);
+    put_first(&mut schedules, i, schedule);
+    let m = grown(n, i);
+    rebuild(p, limit, &codes[..m], &schedules[..m], second)
+}
+
+// From 55 on: leaves the code's pair out of the lists of an accepted table.
+fn take_out(p: u32, limit: u32, words: &[u32], code: u32, second: &mut [u32]) -> Edited
+    requires { ⌜ (Prime p) × ((limit ≤ 2048) × WellFormed p limit (now words)) ⌝ }
+    ensures { λ r. ⌜ Outcome (fromThere p (now (words .entry)) code (length (now (second .entry)))) (tableOfPairs p (without code (pairsIn (now (words .entry))))) (now (second .entry)) (editedOf r) (now (second .exit)) ⌝ }
+{
+    let mut codes = [0u32; ROOM];
+    let mut schedules = [0u32; ROOM];
+    write_pairs(words, &mut codes, &mut schedules);
+    let n = wide(words[0]);
+    let i = position(&codes[..n], code);
+    if i == n {
+        return Edited::NotThere;
+    }
+    leave_out(&mut codes, n, i);
+    leave_out(&mut schedules, n, i);
+    let m = n - 1;
+    rebuild(p, limit, &codes[..m], &schedules[..m], second)
+}
+
+// Putting in for a prime p and a limit on the codes of a table.
+pub fn insert_at(p: u32, limit: u32, words: &[u32], code: u32, schedule: u32, second: &mut [u32]) -> Edited
+    requires { ⌜ (Prime p) × (limit ≤ 2048) ⌝ }
+    ensures { λ r. ⌜ Inserted p limit (now (words .entry)) code schedule (now (second .entry)) (editedOf r) (now (second .exit)) ⌝ }
+{
+    if outside(1, p - 1, code) {
+        return Edited::CodeOutOfRange;
+    }
+    if outside(1, 999, schedule) {
+        return Edited::ScheduleOutOfRange;
+    }
+    let checked = check_at(p, limit, words);
+    let Checked::Accepted(_, _) = checked else {
+        return Edited::Refused(checked);
+    };
+    put_in(p, limit, words, code, schedule, second)
+}
+
+// Taking out for a prime p and a limit on the codes of a table.
+pub fn remove_at(p: u32, limit: u32, words: &[u32], code: u32, second: &mut [u32]) -> Edited
+    requires { ⌜ (Prime p) × (limit ≤ 2048) ⌝ }
+    ensures { λ r. ⌜ Removed p limit (now (words .entry)) code (now (second .entry)) (editedOf r) (now (second .exit)) ⌝ }
+{
+    if outside(1, p - 1, code) {
+        return Edited::CodeOutOfRange;
+    }
+    let checked = check_at(p, limit, words);
+    let Checked::Accepted(_, _) = checked else {
+        return Edited::Refused(checked);
+    };
+    take_out(p, limit, words, code, second)
+}
+
+// Puts a code in with its schedule, in place of the one that it has: the second buffer takes what the build makes of the changed list of pairs.
+// Gives the new total; the words after it are kept. Refused by 51, 52, as the check refuses the old table, by 53 or 54: then the second buffer is kept.
+pub fn insert(words: &[u32], code: u32, schedule: u32, second: &mut [u32]) -> Edited
+    ensures { λ r. ⌜ Inserted 65537 2048 (now (words .entry)) code schedule (now (second .entry)) (editedOf r) (now (second .exit)) ⌝ }
+{
+    insert_at(65537, 2048, words, code, schedule, second)
+}
+
+// Takes a code out: the second buffer takes what the build makes of the pairs that are left. Gives the new total; the words after it are
+// kept. Refused by 51, as the check refuses the old table, by 55 or 54: then the second buffer is kept.
+pub fn remove(words: &[u32], code: u32, second: &mut [u32]) -> Edited
+    ensures { λ r. ⌜ Removed 65537 2048 (now (words .entry)) code (now (second .entry)) (editedOf r) (now (second .exit)) ⌝ }
+{
+    remove_at(65537, 2048, words, code, second)
+}
