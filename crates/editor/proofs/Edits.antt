@@ -175,37 +175,37 @@ module _ {p limit : ℕ} {words codes schedules : List ℕ} {n code i : ℕ} (x 
     -- the first m elements of the lists after the pair is put first
     module _ (schedule m : ℕ) (codes′ schedules′ : List ℕ) (size : m ≡ cond (eqb i n) (n + 1) n)
         (put-code : codes′ ≡ code ∷ omit i codes) (put-schedule : schedules′ ≡ schedule ∷ omit i schedules)
-        where
-      pub put-few : m ≤ limit
-      put-few = rw (size, grown-is) few-with
+      where
+        pub put-few : m ≤ limit
+        put-few = rw (size, grown-is) few-with
 
-      put-codes : take m codes′ ≡ codesOf (withPair code schedule (pairsIn words))
-      unfolding withPair
-      put-codes = rw (size, put-code) (put-list (λ (r : Pair). r .code) code codes (x .codes-front))
+        put-codes : take m codes′ ≡ codesOf (withPair code schedule (pairsIn words))
+        unfolding withPair
+        put-codes = rw (size, put-code) (put-list (λ (r : Pair). r .code) code codes (x .codes-front))
 
-      put-schedules : take m schedules′ ≡ schedulesOf (withPair code schedule (pairsIn words))
-      unfolding withPair
-      put-schedules = rw (size, put-schedule) (put-list (λ (r : Pair). r .schedule) schedule schedules (x .schedules-front))
+        put-schedules : take m schedules′ ≡ schedulesOf (withPair code schedule (pairsIn words))
+        unfolding withPair
+        put-schedules = rw (size, put-schedule) (put-list (λ (r : Pair). r .schedule) schedule schedules (x .schedules-front))
 
-      pub put-listable : 0 < code → code < p → 1 ≤ schedule → schedule ≤ 999 → Listable p limit (take m codes′) (take m schedules′)
-      unfolding withPair
-      put-listable pos below from to =
-          rw (put-codes, put-schedules)
-          (pairs-listable (withPair code schedule (pairsIn words)) few-with
-          (with-codes code schedule (pairsIn words) pos below (pairs-codes (x .accepted)))
-          (λ r h.
-          ⊎-elim
-          (λ same. let e : r .schedule ≡ schedule = ap (λ (y : Pair). y .schedule) same in (omega arith, omega arith))
-          (λ t. pair-schedule (x .accepted) (without-mem code (pairsIn words) t .0))
-          (List·Memᴰ·cases-cons h)))
+        pub put-listable : 0 < code → code < p → 1 ≤ schedule → schedule ≤ 999 → Listable p limit (take m codes′) (take m schedules′)
+        unfolding withPair
+        put-listable pos below from to =
+            rw (put-codes, put-schedules)
+            (pairs-listable (withPair code schedule (pairsIn words)) few-with
+            (with-codes code schedule (pairsIn words) pos below (pairs-codes (x .accepted)))
+            (λ r h.
+            ⊎-elim
+            (λ same. let e : r .schedule ≡ schedule = ap (λ (y : Pair). y .schedule) same in (omega arith, omega arith))
+            (λ t. pair-schedule (x .accepted) (without-mem code (pairsIn words) t .0))
+            (List·Memᴰ·cases-cons h)))
 
-      pub put-outcome :
-          (lent : ℕ) {second second′ : List ℕ} {answer : Answer}
-          → Outcome (fromTotal p (take m codes′) lent) (tableOf p (take m codes′) (take m schedules′)) second answer second′
-          → Outcome (fromFull p limit words code schedule lent) (tableOfPairs p (withPair code schedule (pairsIn words))) second answer second′
-      unfolding fromFull
-      put-outcome lent =
-          rebuilt-outcome p lent (withPair code schedule (pairsIn words)) put-codes put-schedules (rw (full-is, ne-eqb i limit room))
+        pub put-outcome :
+            (lent : ℕ) {second second′ : List ℕ} {answer : Answer}
+            → Outcome (fromTotal p (take m codes′) lent) (tableOf p (take m codes′) (take m schedules′)) second answer second′
+            → Outcome (fromFull p limit words code schedule lent) (tableOfPairs p (withPair code schedule (pairsIn words))) second answer second′
+        unfolding fromFull
+        put-outcome lent =
+            rebuilt-outcome p lent (withPair code schedule (pairsIn words)) put-codes put-schedules (rw (full-is, ne-eqb i limit room))
 
   -- ---- take out
 
@@ -221,24 +221,24 @@ module _ {p limit : ℕ} {words codes schedules : List ℕ} {n code i : ℕ} (x 
     -- the first n - 1 elements of the lists after the pair is left out
     module _ (codes′ schedules′ : List ℕ) (out-code : take (n - 1) codes′ ≡ omit i (take n codes))
         (out-schedule : take (n - 1) schedules′ ≡ omit i (take n schedules))
-        where
-      out-codes : take (n - 1) codes′ ≡ codesOf (without code (pairsIn words))
-      out-codes = out-code ∙ rw (x .codes-front) (left-list (λ (r : Pair). r .code))
+      where
+        out-codes : take (n - 1) codes′ ≡ codesOf (without code (pairsIn words))
+        out-codes = out-code ∙ rw (x .codes-front) (left-list (λ (r : Pair). r .code))
 
-      out-schedules : take (n - 1) schedules′ ≡ schedulesOf (without code (pairsIn words))
-      out-schedules = out-schedule ∙ rw (x .schedules-front) (left-list (λ (r : Pair). r .schedule))
+        out-schedules : take (n - 1) schedules′ ≡ schedulesOf (without code (pairsIn words))
+        out-schedules = out-schedule ∙ rw (x .schedules-front) (left-list (λ (r : Pair). r .schedule))
 
-      pub out-listable : Listable p limit (take (n - 1) codes′) (take (n - 1) schedules′)
-      out-listable =
-          rw (out-codes, out-schedules)
-          (pairs-listable (without code (pairsIn words)) (omega (arith, few-pairs, left-fewer index-lt))
-          (without-codes code (pairsIn words) (pairs-codes (x .accepted)))
-          (λ r h. pair-schedule (x .accepted) (without-mem code (pairsIn words) h .0)))
+        pub out-listable : Listable p limit (take (n - 1) codes′) (take (n - 1) schedules′)
+        out-listable =
+            rw (out-codes, out-schedules)
+            (pairs-listable (without code (pairsIn words)) (omega (arith, few-pairs, left-fewer index-lt))
+            (without-codes code (pairsIn words) (pairs-codes (x .accepted)))
+            (λ r h. pair-schedule (x .accepted) (without-mem code (pairsIn words) h .0)))
 
-      pub out-outcome :
-          (lent : ℕ) {second second′ : List ℕ} {answer : Answer}
-          → Outcome (fromTotal p (take (n - 1) codes′) lent) (tableOf p (take (n - 1) codes′) (take (n - 1) schedules′)) second answer second′
-          → Outcome (fromThere p words code lent) (tableOfPairs p (without code (pairsIn words))) second answer second′
-      unfolding fromThere
-      out-outcome lent =
-          rebuilt-outcome p lent (without code (pairsIn words)) out-codes out-schedules (rw (present-is, lt-ltb i n index-lt))
+        pub out-outcome :
+            (lent : ℕ) {second second′ : List ℕ} {answer : Answer}
+            → Outcome (fromTotal p (take (n - 1) codes′) lent) (tableOf p (take (n - 1) codes′) (take (n - 1) schedules′)) second answer second′
+            → Outcome (fromThere p words code lent) (tableOfPairs p (without code (pairsIn words))) second answer second′
+        unfolding fromThere
+        out-outcome lent =
+            rebuilt-outcome p lent (without code (pairsIn words)) out-codes out-schedules (rw (present-is, lt-ltb i n index-lt))

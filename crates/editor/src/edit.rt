@@ -13,11 +13,11 @@ ghost use Rattle.editor.specs.Edited.{editedOf, fromTotal, fromFull, fro
 use crate::lists::leave_out;
 use crate::lists::position;
 use crate::lists::put_first;
-use audit::check::check_at;
 use audit::check::Checked;
+use audit::check::check_at;
 use audit::pairs::write_pairs;
-use builder::build::build_at;
 use builder::build::BuildAnswer;
+use builder::build::build_at;
 use table::words::outside;
 use table::words::wide;
 
@@ -106,7 +106,14 @@ fn take_out(p: u32, limit: u32, words: &[u32], code: u32, second: &mut [u32]) ->
 }
 
 // Putting in for a prime p and a limit on the codes of a table.
-pub fn insert_at(p: u32, limit: u32, words: &[u32], code: u32, schedule: u32, second: &mut [u32]) -> Edited
+pub fn insert_at(
+    p: u32,
+    limit: u32,
+    words: &[u32],
+    code: u32,
+    schedule: u32,
+    second: &mut [u32],
+) -> Edited
     requires { ⌜ (Prime p) × (limit ≤ 2048) ⌝ }
     ensures { λ r. ⌜ Inserted p limit (now (words .entry)) code schedule (now (second .entry)) (editedOf r) (now (second .exit)) ⌝ }
 {

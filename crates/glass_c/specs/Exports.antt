@@ -6,6 +6,7 @@ use lib.ListN.{length}
 use Rattle.table.specs.Answers.{filled}
 use Rattle.audit.specs.Pairs.{codesOf, schedulesOf, pairsIn, pairsOf}
 use Rattle.builder.specs.Build.{buildOf, builtWords}
+use Rattle.editor.specs.Edit.{without, withPair, tableOfPairs, insertOf, removeOf}
 use Rattle.glass_c.specs.declared.GlassAnswer.{GlassAnswer}
 use Rattle.glass_c.specs.Numbers.{Shown}
 
@@ -17,3 +18,12 @@ pub record PairsShown (p limit : ℕ) (words codes schedules : List ℕ) (r : Gl
   pub shows : Shown (pairsOf p limit words codes schedules) r
   pub codes-at-exit : codes′ ≡ filled (pairsOf p limit words codes schedules) (codesOf (pairsIn words)) codes
   pub schedules-at-exit : schedules′ ≡ filled (pairsOf p limit words codes schedules) (schedulesOf (pairsIn words)) schedules
+
+pub record InsertShown (p limit : ℕ) (words : List ℕ) (code schedule : ℕ) (second : List ℕ) (r : GlassAnswer) (second′ : List ℕ) : Type 0 where
+  pub shows : Shown (insertOf p limit words code schedule (length second)) r
+  pub second-at-exit :
+      second′ ≡ filled (insertOf p limit words code schedule (length second)) (tableOfPairs p (withPair code schedule (pairsIn words))) second
+
+pub record RemoveShown (p limit : ℕ) (words : List ℕ) (code : ℕ) (second : List ℕ) (r : GlassAnswer) (second′ : List ℕ) : Type 0 where
+  pub shows : Shown (removeOf p limit words code (length second)) r
+  pub second-at-exit : second′ ≡ filled (removeOf p limit words code (length second)) (tableOfPairs p (without code (pairsIn words))) second

@@ -1,6 +1,7 @@
 // The C interface (include/glass.h): each function shows the answer of the proved one as a number and a value.
 mod built;
 mod checked;
+mod edited;
 mod fired;
 mod found;
 mod read;
@@ -9,7 +10,7 @@ ghost use Rattle.table.specs.Lookup.{lookupOf};
 ghost use Rattle.table.specs.Panel.{panelOf};
 ghost use Rattle.audit.specs.Check.{checkOf};
 ghost use Rattle.glass_c.specs.Numbers.{Shown};
-ghost use Rattle.glass_c.specs.Exports.{BuildShown, PairsShown};
+ghost use Rattle.glass_c.specs.Exports.{BuildShown, PairsShown, InsertShown, RemoveShown};
 
 // 0 with the result, 1000 for an absent or unknown code, or a refusal's number with what comes with it.
 #[repr(C)]
@@ -55,4 +56,23 @@ pub extern "C" fn glass_pairs(
     ensures { λ r. ⌜ PairsShown 65537 2048 (now (words .entry)) (now (codes .entry)) (now (schedules .entry)) r (now (codes .exit)) (now (schedules .exit)) ⌝ }
 {
     read::shown(audit::pairs::pairs(words, codes, schedules))
+}
+
+#[no_mangle]
+pub extern "C" fn glass_insert(
+    words: &[u32],
+    code: u32,
+    schedule: u32,
+    second: &mut [u32],
+) -> GlassAnswer
+    ensures { λ r. ⌜ InsertShown 65537 2048 (now (words .entry)) code schedule (now (second .entry)) r (now (second .exit)) ⌝ }
+{
+    edited::shown(editor::edit::insert(words, code, schedule, second))
+}
+
+#[no_mangle]
+pub extern "C" fn glass_remove(words: &[u32], code: u32, second: &mut [u32]) -> GlassAnswer
+    ensures { λ r. ⌜ RemoveShown 65537 2048 (now (words .entry)) code (now (second .entry)) r (now (second .exit)) ⌝ }
+{
+    edited::shown(editor::edit::remove(words, code, second))
 }

@@ -69,11 +69,14 @@ rebuild-requires : tie.Need-rebuild-requires
 rebuild-requires c κs =
     let g = c .before .before .before in
     let e = g .before .before .before .before .before .before .before in
-    let s = root (e .before .before) in
-    (s .pre .0 .0,
-    (s .pre .0 .1 .0,
-    put-listable (found (e .before .before)) (room e) _ _ _ _ (g .grown .ensures) (g .before .before .before .before .before .put-first .ensures)
-    (g .before .before .put-first2 .ensures) (s .pre .1 .0) (s .pre .1 .1 .0) (s .pre .1 .1 .1 .0) (s .pre .1 .1 .1 .1)))
+    let s = root (e .before .before) in (
+      s .pre .0 .0,
+      (
+        s .pre .0 .1 .0,
+        put-listable (found (e .before .before)) (room e) _ _ _ _ (g .grown .ensures) (g .before .before .before .before .before .put-first .ensures)
+            (g .before .before .put-first2 .ensures) (s .pre .1 .0) (s .pre .1 .1 .0) (s .pre .1 .1 .1 .0) (s .pre .1 .1 .1 .1),
+      ),
+    )
 
 returns-2 : tie.Need-returns-2
 returns-2 c =
