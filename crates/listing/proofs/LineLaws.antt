@@ -8,6 +8,7 @@ use native.Mathlib.Omega.{arith}
 use lib.ListN.{length, drop, getD, length-append}
 use lib.Seq.{drop-cons}
 use Rattle.audit.specs.Pairs.{Pair, codesOf, schedulesOf}
+use Rattle.listing.specs.Added.{Added}
 use Rattle.listing.specs.Listing.{decimal, refusedLine, headLine, pairLines}
 use Rattle.listing.specs.Lines.{pairLine, paired}
 use Rattle.listing.proofs.Decimal.{decimal-few}
@@ -22,11 +23,18 @@ unfolding headLine
 head-length n c k = simp length-append (omega arith)
 
 -- ten digits at most for each number
-pub refused-few : (number value : ℕ) → length (refusedLine number value) ≤ 30
-refused-few number value = omega (arith, refused-length number value, decimal-few number, decimal-few value)
+pub refused-fits : (number value : ℕ) {room : ℕ} → 30 ≤ room → 0 + length (refusedLine number value) ≤ room
+refused-fits number value h = omega (arith, refused-length number value, decimal-few number, decimal-few value)
 
-pub head-few : (n c k : ℕ) → length (headLine n c k) ≤ 56
-head-few n c k = omega (arith, head-length n c k, decimal-few n, decimal-few c, decimal-few k)
+module _ (n c k : ℕ) where
+  head-few : length (headLine n c k) ≤ 56
+  head-few = omega (arith, head-length n c k, decimal-few n, decimal-few c, decimal-few k)
+
+  pub head-fits : {room : ℕ} → 56 ≤ room → 0 + length (headLine n c k) ≤ room
+  head-fits h = omega (arith, head-few)
+
+  pub head-end : {old : List ℕ} {end : ℕ} {new : List ℕ} → Added (headLine n c k) 0 old end new → end ≤ 56
+  head-end a = omega (arith, a .place, head-few)
 
 pub pair-length : (code schedule : ℕ) → length (pairLine code schedule) ≡ 2 + length (decimal code) + length (decimal schedule)
 unfolding pairLine

@@ -6,21 +6,15 @@ use borrow.Author.Needs.{needs}
 use lib.Seq.{length-take-le}
 use Rattle.listing.proofs.Added.{kept, up-to}
 use Rattle.listing.proofs.FileLaws.{too-long, ragged, whole, file-listed}
-use Rattle.listing.proofs.LineLaws.{refused-few}
+use Rattle.listing.proofs.LineLaws.{refused-fits}
 use Rattle.listing.proofs.files.list_file.Statement.{statement}
 use Rattle.listing.proofs.files.list_file.Tie as tie
-
-put-refused-requires : tie.Need-put-refused-requires
-put-refused-requires c κs = omega (arith, refused-few 61 0)
 
 returns : tie.Need-returns
 returns c =
     let t = c .before .before in
     let s = t .before .before .args in
     file-listed _ _ _ (rw (too-long (s .p) (s .limit) (s .bytes .now) (t .if1 .taken)) (c .put-refused .ensures))
-
-put-refused-requires-2 : tie.Need-put-refused-requires-2
-put-refused-requires-2 c κs = omega (arith, refused-few 62 0)
 
 returns-2 : tie.Need-returns-2
 returns-2 c =
@@ -45,9 +39,9 @@ pub list-file-spec : {M : Type 1} → statement M
 list-file-spec =
     tie.close
     (tie.spec
-    put-refused-requires
+    (λ c κs. refused-fits _ _ (omega arith))
     returns
-    put-refused-requires-2
+    (λ c κs. refused-fits _ _ (omega arith))
     returns-2
     (λ c. search needs)
     (λ c κs. search needs)

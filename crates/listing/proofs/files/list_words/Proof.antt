@@ -4,7 +4,7 @@ use native.Mathlib.Omega.{arith}
 use mathlib.Core.Path.{_∙_, sym}
 use borrow.Author.Needs.{needs}
 use Rattle.listing.proofs.FileLaws.{Listed, listed, refused-text}
-use Rattle.listing.proofs.LineLaws.{refused-few}
+use Rattle.listing.proofs.LineLaws.{refused-fits}
 use Rattle.listing.proofs.files.list_words.Statement.{statement}
 use Rattle.listing.proofs.files.list_words.Tie as tie
 
@@ -21,11 +21,6 @@ put-table-requires : tie.Need-put-table-requires
 put-table-requires c κs =
     let r = read (c .before .before .before) in
     (r .three, (omega arith, r .schedules-length ∙ sym (r .codes-length)))
-
-put-refused-requires : tie.Need-put-refused-requires
-put-refused-requires c κs =
-    let g = c .before .before .number .given .0 in
-    omega (arith, refused-few (g .0) (g .1 .0))
 
 returns : tie.Need-returns
 returns c = rw (read (c .before .before .before .before) .text) (c .put-table .ensures)
@@ -53,6 +48,6 @@ list-words-spec =
     (λ c. sym (read (c .before .before .before) .schedules-length))
     put-table-requires
     (λ c. search needs)
-    put-refused-requires
+    (λ c κs. refused-fits _ _ (omega arith))
     returns
     returns-2)

@@ -1,32 +1,27 @@
 -- `listing::files::put_table` meets its contract: with ten digits at most for a number, the longest table fits.
 -- Assumes nothing.
 use native.Mathlib.Omega.{arith}
-use Rattle.table.specs.Words.{codeCount, cellCount, multiplier}
 use Rattle.listing.specs.Files.{tableLines}
 use Rattle.listing.specs.Lines.{paired}
 use Rattle.listing.proofs.Added.{both, kept}
-use Rattle.listing.proofs.LineLaws.{head-few, lines-few, paired-length}
+use Rattle.listing.proofs.LineLaws.{head-fits, head-end, lines-few, paired-length}
 use Rattle.listing.proofs.files.put_table.Statement.{statement}
 use Rattle.listing.proofs.files.put_table.Tie as tie
 
 put-head-requires : tie.Need-put-head-requires
-put-head-requires c κs =
-    let words = c .before .before .before .before .before .before .before .args .words .now in
-    omega (arith, head-few (codeCount words) (cellCount words) (multiplier words))
+put-head-requires c κs = head-fits _ _ _ (omega arith)
 
 put-pairs-requires : tie.Need-put-pairs-requires
 put-pairs-requires c κs =
     let h = c .before in
     let s = h .before .before .before .before .before .before .before .before in
-    let words = s .args .words .now in
     let codes = s .args .codes .now in
     let schedules = s .args .schedules .now in (
       s .pre .1 .1,
       omega (
         arith,
-        h .put-head .ensures .place,
+        head-end _ _ _ (h .put-head .ensures),
         kept (h .put-head .ensures),
-        head-few (codeCount words) (cellCount words) (multiplier words),
         lines-few (paired codes schedules),
         paired-length codes schedules,
       ),
