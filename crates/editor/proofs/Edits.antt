@@ -25,7 +25,7 @@ use Rattle.audit.specs.ReadBack.{PairsWritten}
 use Rattle.audit.proofs.PairLaws.{pairs-length, pairs-codes, pair-schedule}
 use Rattle.builder.proofs.Valid.{list-accepted}
 use Rattle.editor.specs.Edit.{without, withPair, present, rebuilt, tableOfPairs}
-use Rattle.editor.specs.Edited.{fromTotal, fromFull, fromThere, Outcome, Listable}
+use Rattle.editor.specs.Edited.{Outcome, Listable, InRange, fromTotal, fromFull, fromThere, Rebuilding, PutIn, TakenOut}
 use Rattle.editor.specs.Lists.{omit}
 use Rattle.editor.proofs.Omitted.{omit-length, omit-none, omit-map, omit-take}
 use Rattle.editor.proofs.Changed.{At, among-index, without-at, without-mem, without-codes, with-codes}
@@ -175,37 +175,38 @@ module _ {p limit : ℕ} {words codes schedules : List ℕ} {n code i : ℕ} (x 
     -- the first m elements of the lists after the pair is put first
     module _ (schedule m : ℕ) (codes′ schedules′ : List ℕ) (size : m ≡ cond (eqb i n) (n + 1) n)
         (put-code : codes′ ≡ code ∷ omit i codes) (put-schedule : schedules′ ≡ schedule ∷ omit i schedules)
-        where
-      pub put-few : m ≤ limit
-      put-few = rw (size, grown-is) few-with
+      where
+        pub put-few : m ≤ limit
+        put-few = rw (size, grown-is) few-with
 
-      put-codes : take m codes′ ≡ codesOf (withPair code schedule (pairsIn words))
-      unfolding withPair
-      put-codes = rw (size, put-code) (put-list (λ (r : Pair). r .code) code codes (x .codes-front))
+        put-codes : take m codes′ ≡ codesOf (withPair code schedule (pairsIn words))
+        unfolding withPair
+        put-codes = rw (size, put-code) (put-list (λ (r : Pair). r .code) code codes (x .codes-front))
 
-      put-schedules : take m schedules′ ≡ schedulesOf (withPair code schedule (pairsIn words))
-      unfolding withPair
-      put-schedules = rw (size, put-schedule) (put-list (λ (r : Pair). r .schedule) schedule schedules (x .schedules-front))
+        put-schedules : take m schedules′ ≡ schedulesOf (withPair code schedule (pairsIn words))
+        unfolding withPair
+        put-schedules = rw (size, put-schedule) (put-list (λ (r : Pair). r .schedule) schedule schedules (x .schedules-front))
 
-      pub put-listable : 0 < code → code < p → 1 ≤ schedule → schedule ≤ 999 → Listable p limit (take m codes′) (take m schedules′)
-      unfolding withPair
-      put-listable pos below from to =
-          rw (put-codes, put-schedules)
-          (pairs-listable (withPair code schedule (pairsIn words)) few-with
-          (with-codes code schedule (pairsIn words) pos below (pairs-codes (x .accepted)))
-          (λ r h.
-          ⊎-elim
-          (λ same. let e : r .schedule ≡ schedule = ap (λ (y : Pair). y .schedule) same in (omega arith, omega arith))
-          (λ t. pair-schedule (x .accepted) (without-mem code (pairsIn words) t .0))
-          (List·Memᴰ·cases-cons h)))
+        pub put-listable : InRange p code schedule → Listable p limit (take m codes′) (take m schedules′)
+        unfolding withPair
+        put-listable range =
+            rw (put-codes, put-schedules)
+            (pairs-listable (withPair code schedule (pairsIn words)) few-with
+            (with-codes code schedule (pairsIn words) (range .code-from-one) (range .code-below) (pairs-codes (x .accepted)))
+            (λ r h.
+            ⊎-elim
+            (λ same.
+            let e : r .schedule ≡ schedule = ap (λ (y : Pair). y .schedule) same in
+            (omega (arith, range .schedule-from-one), omega (arith, range .schedule-to-999)))
+            (λ t. pair-schedule (x .accepted) (without-mem code (pairsIn words) t .0))
+            (List·Memᴰ·cases-cons h)))
 
-      pub put-outcome :
-          (lent : ℕ) {second second′ : List ℕ} {answer : Answer}
-          → Outcome (fromTotal p (take m codes′) lent) (tableOf p (take m codes′) (take m schedules′)) second answer second′
-          → Outcome (fromFull p limit words code schedule lent) (tableOfPairs p (withPair code schedule (pairsIn words))) second answer second′
-      unfolding fromFull
-      put-outcome lent =
-          rebuilt-outcome p lent (withPair code schedule (pairsIn words)) put-codes put-schedules (rw (full-is, ne-eqb i limit room))
+        pub put-outcome :
+            {second second′ : List ℕ} {answer : Answer} → Rebuilding p (take m codes′) (take m schedules′) second answer second′
+            → PutIn p limit words code schedule second answer second′
+        unfolding fromFull
+        put-outcome {second} =
+            rebuilt-outcome p (length second) (withPair code schedule (pairsIn words)) put-codes put-schedules (rw (full-is, ne-eqb i limit room))
 
   -- ---- take out
 
@@ -221,24 +222,23 @@ module _ {p limit : ℕ} {words codes schedules : List ℕ} {n code i : ℕ} (x 
     -- the first n - 1 elements of the lists after the pair is left out
     module _ (codes′ schedules′ : List ℕ) (out-code : take (n - 1) codes′ ≡ omit i (take n codes))
         (out-schedule : take (n - 1) schedules′ ≡ omit i (take n schedules))
-        where
-      out-codes : take (n - 1) codes′ ≡ codesOf (without code (pairsIn words))
-      out-codes = out-code ∙ rw (x .codes-front) (left-list (λ (r : Pair). r .code))
+      where
+        out-codes : take (n - 1) codes′ ≡ codesOf (without code (pairsIn words))
+        out-codes = out-code ∙ rw (x .codes-front) (left-list (λ (r : Pair). r .code))
 
-      out-schedules : take (n - 1) schedules′ ≡ schedulesOf (without code (pairsIn words))
-      out-schedules = out-schedule ∙ rw (x .schedules-front) (left-list (λ (r : Pair). r .schedule))
+        out-schedules : take (n - 1) schedules′ ≡ schedulesOf (without code (pairsIn words))
+        out-schedules = out-schedule ∙ rw (x .schedules-front) (left-list (λ (r : Pair). r .schedule))
 
-      pub out-listable : Listable p limit (take (n - 1) codes′) (take (n - 1) schedules′)
-      out-listable =
-          rw (out-codes, out-schedules)
-          (pairs-listable (without code (pairsIn words)) (omega (arith, few-pairs, left-fewer index-lt))
-          (without-codes code (pairsIn words) (pairs-codes (x .accepted)))
-          (λ r h. pair-schedule (x .accepted) (without-mem code (pairsIn words) h .0)))
+        pub out-listable : Listable p limit (take (n - 1) codes′) (take (n - 1) schedules′)
+        out-listable =
+            rw (out-codes, out-schedules)
+            (pairs-listable (without code (pairsIn words)) (omega (arith, few-pairs, left-fewer index-lt))
+            (without-codes code (pairsIn words) (pairs-codes (x .accepted)))
+            (λ r h. pair-schedule (x .accepted) (without-mem code (pairsIn words) h .0)))
 
-      pub out-outcome :
-          (lent : ℕ) {second second′ : List ℕ} {answer : Answer}
-          → Outcome (fromTotal p (take (n - 1) codes′) lent) (tableOf p (take (n - 1) codes′) (take (n - 1) schedules′)) second answer second′
-          → Outcome (fromThere p words code lent) (tableOfPairs p (without code (pairsIn words))) second answer second′
-      unfolding fromThere
-      out-outcome lent =
-          rebuilt-outcome p lent (without code (pairsIn words)) out-codes out-schedules (rw (present-is, lt-ltb i n index-lt))
+        pub out-outcome :
+            {second second′ : List ℕ} {answer : Answer} → Rebuilding p (take (n - 1) codes′) (take (n - 1) schedules′) second answer second′
+            → TakenOut p words code second answer second′
+        unfolding fromThere
+        out-outcome {second} =
+            rebuilt-outcome p (length second) (without code (pairsIn words)) out-codes out-schedules (rw (present-is, lt-ltb i n index-lt))

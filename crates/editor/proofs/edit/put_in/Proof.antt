@@ -21,7 +21,7 @@ found :
     (c .before .before .before .before .before .before .write-pairs .last .1 .1 .0) (c .before .before .wide .result) (root c .args .code)
     (c .position .result)
 found c =
-    indexed _ _ _ (root c .pre .0 .1 .1) (c .before .before .wide .ensures .value)
+    indexed _ _ _ (root c .pre .1 .1 .0) (c .before .before .wide .ensures .value)
     (c .before .before .before .before .before .before .write-pairs .ensures) (c .position .ensures)
 
 -- it is in the table, or the table is not full
@@ -29,7 +29,7 @@ room : (c : tie.Else1) → c .before .before .position .result ≡ root (c .befo
 room c e = c .if1 .left (e ∙ sym (c .before .wide2 .ensures .value))
 
 small : (c : tie.Else1) → c .before .before .position .result < 2048
-small c = omega (arith, room-left (found (c .before .before)) (room c), root (c .before .before) .pre .0 .1 .0)
+small c = omega (arith, room-left (found (c .before .before)) (room c), root (c .before .before) .pre .1 .0)
 
 slice-aggregate-position : tie.Need-slice-aggregate-position
 slice-aggregate-position c = sym (length-take-le _ _ (search needs))
@@ -50,7 +50,7 @@ few c =
       arith,
       put-few (found (e .before .before)) (room e) _ _ _ _ (c .grown .ensures) (c .before .before .before .before .before .put-first .ensures)
           (c .before .before .put-first2 .ensures),
-      root (e .before .before) .pre .0 .1 .0,
+      root (e .before .before) .pre .1 .0,
     )
 
 array-share-prefix-codes-2 : tie.Need-array-share-prefix-codes-2
@@ -70,17 +70,17 @@ rebuild-requires c κs =
     let g = c .before .before .before in
     let e = g .before .before .before .before .before .before .before in
     let s = root (e .before .before) in
-    (s .pre .0 .0,
-    (s .pre .0 .1 .0,
-    put-listable (found (e .before .before)) (room e) _ _ _ _ (g .grown .ensures) (g .before .before .before .before .before .put-first .ensures)
-    (g .before .before .put-first2 .ensures) (s .pre .1 .0) (s .pre .1 .1 .0) (s .pre .1 .1 .1 .0) (s .pre .1 .1 .1 .1)))
+    let listable =
+    put-listable (found (e .before .before)) (room e) _ _ _ _ (g .grown .ensures)
+    (g .before .before .before .before .before .put-first .ensures) (g .before .before .put-first2 .ensures) (s .pre .1 .1 .1) in
+    (s .pre .0, (s .pre .1 .0, listable))
 
 returns-2 : tie.Need-returns-2
 returns-2 c =
     let g = c .before .before .before .before .before .before in
     let e = g .before .before .before .before .before .before .before in
     put-outcome (found (e .before .before)) (room e) _ _ _ _ (g .grown .ensures) (g .before .before .before .before .before .put-first .ensures)
-    (g .before .before .put-first2 .ensures) _
+    (g .before .before .put-first2 .ensures)
     (c .before .before .rebuild .ensures)
 
 pub put-in-spec : {M : Type 1} → statement M

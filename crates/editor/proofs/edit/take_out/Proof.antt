@@ -52,16 +52,19 @@ rebuild-requires : tie.Need-rebuild-requires
 rebuild-requires c κs =
     let g = c .before .before .before in
     let e = g .before .before .before .before .before .before in
-    let s = root (e .before) in
-    (s .pre .0,
-    (s .pre .1 .0,
-    out-listable (found (e .before)) (e .if1 .left) _ _ (g .before .before .before .before .leave-out .ensures) (g .before .leave-out2 .ensures)))
+    let s = root (e .before) in (
+      s .pre .0,
+      (
+        s .pre .1 .0,
+        out-listable (found (e .before)) (e .if1 .left) _ _ (g .before .before .before .before .leave-out .ensures) (g .before .leave-out2 .ensures),
+      ),
+    )
 
 returns-2 : tie.Need-returns-2
 returns-2 c =
     let g = c .before .before .before .before .before .before in
     let e = g .before .before .before .before .before .before in
-    out-outcome (found (e .before)) (e .if1 .left) _ _ (g .before .before .before .before .leave-out .ensures) (g .before .leave-out2 .ensures) _
+    out-outcome (found (e .before)) (e .if1 .left) _ _ (g .before .before .before .before .leave-out .ensures) (g .before .leave-out2 .ensures)
     (c .before .before .rebuild .ensures)
 
 pub take-out-spec : {M : Type 1} → statement M
