@@ -6,13 +6,13 @@ use Prim.Native.Nat.{ℕ, suc, _+_, _-_, _<_, _≤_}
 use native.Mathlib.Decide.{decLt}
 use native.Mathlib.Omega.{arith}
 use mathlib.Core.Bool.{not, cond, _&&_}
-use mathlib.Core.List.{List, [], _∷_, _++_, map, List·Memᴰ, List·Memᴰ·cases-cons, Memᴰ·of-map}
+use mathlib.Core.List.{List, _∷_, map, List·Memᴰ, List·Memᴰ·cases-cons, Memᴰ·of-map}
 use mathlib.Core.Logic.{⊎-elim}
-use mathlib.Core.Path.{_≡_, refl, sym, ap, _∙_}
+use mathlib.Core.Path.{_≡_, sym, ap, _∙_}
 use borrow.Author.Tests.{lt-ltb, le-ltb, eq-eqb, ne-eqb}
 use lib.Dec.{eqb, ltb}
-use lib.ListN.{length, getD, take, drop, length-map}
-use lib.Seq.{take-append-le, take-at}
+use lib.ListN.{length, getD, take, length-map}
+use lib.Seq.{take-at}
 use Rattle.hash.specs.Hash.{Codes}
 use Rattle.hash.proofs.Members.{mem-at}
 use Rattle.table.specs.Answers.{Answer, refused, firstOf, over}
