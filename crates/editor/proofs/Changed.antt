@@ -1,10 +1,9 @@
 -- The changed pairs of a table over plain lists. The codes of a table are different, so to leave out the pair of a code is to leave out the
 -- element at the code's index; and what is left is a list of codes again, before which the code itself is new.
 -- Assumes nothing.
-use Prim.Native.Nat.{ℕ, zero, suc, _<_, _≤_}
+use Prim.Native.Nat.{ℕ, zero, suc, _<_}
 use native.Mathlib.Decide.{ℕ-discrete, decLt}
 use native.Mathlib.Omega.{arith}
-use mathlib.Core.Bool.{Bool, true, false, _||_, false≢true}
 use mathlib.Core.List.{List, [], _∷_, List·Memᴰ, List·Memᴰ·head, List·Memᴰ·tail, List·Memᴰ·cases-cons, List·Memᴰ·not-nil, Memᴰ·map, Memᴰ·of-map}
 use mathlib.Core.Logic.{⊎-elim}
 use mathlib.Core.Path.{_≡_, refl, sym, ap, _∙_}
@@ -13,7 +12,7 @@ use lib.Dec.{eqb, ltb}
 use lib.ListN.{length, getD}
 use lib.Seq.{take-length}
 use Rattle.hash.specs.Hash.{Codes}
-use Rattle.hash.proofs.Members.{mem-at, codes-nil, codes-cons, codes-tail, codes-new}
+use Rattle.hash.proofs.Members.{codes-cons, codes-tail, codes-new}
 use Rattle.table.proofs.First.{First}
 use Rattle.audit.specs.Pairs.{Pair, codesOf}
 use Rattle.builder.specs.Build.{among}

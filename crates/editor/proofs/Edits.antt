@@ -6,13 +6,13 @@ use Prim.Native.Nat.{ℕ, suc, _+_, _-_, _<_, _≤_}
 use native.Mathlib.Decide.{decLt}
 use native.Mathlib.Omega.{arith}
 use mathlib.Core.Bool.{not, cond, _&&_}
-use mathlib.Core.List.{List, [], _∷_, _++_, map, List·Memᴰ, List·Memᴰ·cases-cons, Memᴰ·of-map}
+use mathlib.Core.List.{List, _∷_, map, List·Memᴰ, List·Memᴰ·cases-cons, Memᴰ·of-map}
 use mathlib.Core.Logic.{⊎-elim}
-use mathlib.Core.Path.{_≡_, refl, sym, ap, _∙_}
+use mathlib.Core.Path.{_≡_, sym, ap, _∙_}
 use borrow.Author.Tests.{lt-ltb, le-ltb, eq-eqb, ne-eqb}
 use lib.Dec.{eqb, ltb}
-use lib.ListN.{length, getD, take, drop, length-map}
-use lib.Seq.{take-append-le, take-at}
+use lib.ListN.{length, getD, take, length-map}
+use lib.Seq.{take-at}
 use Rattle.hash.specs.Hash.{Codes}
 use Rattle.hash.proofs.Members.{mem-at}
 use Rattle.table.specs.Answers.{Answer, refused, firstOf, over}
@@ -25,7 +25,7 @@ use Rattle.audit.specs.ReadBack.{PairsWritten}
 use Rattle.audit.proofs.PairLaws.{pairs-length, pairs-codes, pair-schedule}
 use Rattle.builder.proofs.Valid.{list-accepted}
 use Rattle.editor.specs.Edit.{without, withPair, present, rebuilt, tableOfPairs}
-use Rattle.editor.specs.Edited.{fromTotal, fromFull, fromThere, Outcome, Listable}
+use Rattle.editor.specs.Edited.{Outcome, Listable, InRange, fromTotal, fromFull, fromThere, Rebuilding, PutIn, TakenOut}
 use Rattle.editor.specs.Lists.{omit}
 use Rattle.editor.proofs.Omitted.{omit-length, omit-none, omit-map, omit-take}
 use Rattle.editor.proofs.Changed.{At, among-index, without-at, without-mem, without-codes, with-codes}
@@ -187,25 +187,26 @@ module _ {p limit : ℕ} {words codes schedules : List ℕ} {n code i : ℕ} (x 
         unfolding withPair
         put-schedules = rw (size, put-schedule) (put-list (λ (r : Pair). r .schedule) schedule schedules (x .schedules-front))
 
-        pub put-listable : 0 < code → code < p → 1 ≤ schedule → schedule ≤ 999 → Listable p limit (take m codes′) (take m schedules′)
+        pub put-listable : InRange p code schedule → Listable p limit (take m codes′) (take m schedules′)
         unfolding withPair
-        put-listable pos below from to =
+        put-listable range =
             rw (put-codes, put-schedules)
             (pairs-listable (withPair code schedule (pairsIn words)) few-with
-            (with-codes code schedule (pairsIn words) pos below (pairs-codes (x .accepted)))
+            (with-codes code schedule (pairsIn words) (range .code-from-one) (range .code-below) (pairs-codes (x .accepted)))
             (λ r h.
             ⊎-elim
-            (λ same. let e : r .schedule ≡ schedule = ap (λ (y : Pair). y .schedule) same in (omega arith, omega arith))
+            (λ same.
+            let e : r .schedule ≡ schedule = ap (λ (y : Pair). y .schedule) same in
+            (omega (arith, range .schedule-from-one), omega (arith, range .schedule-to-999)))
             (λ t. pair-schedule (x .accepted) (without-mem code (pairsIn words) t .0))
             (List·Memᴰ·cases-cons h)))
 
         pub put-outcome :
-            (lent : ℕ) {second second′ : List ℕ} {answer : Answer}
-            → Outcome (fromTotal p (take m codes′) lent) (tableOf p (take m codes′) (take m schedules′)) second answer second′
-            → Outcome (fromFull p limit words code schedule lent) (tableOfPairs p (withPair code schedule (pairsIn words))) second answer second′
+            {second second′ : List ℕ} {answer : Answer} → Rebuilding p (take m codes′) (take m schedules′) second answer second′
+            → PutIn p limit words code schedule second answer second′
         unfolding fromFull
-        put-outcome lent =
-            rebuilt-outcome p lent (withPair code schedule (pairsIn words)) put-codes put-schedules (rw (full-is, ne-eqb i limit room))
+        put-outcome {second} =
+            rebuilt-outcome p (length second) (withPair code schedule (pairsIn words)) put-codes put-schedules (rw (full-is, ne-eqb i limit room))
 
   -- ---- take out
 
@@ -236,9 +237,8 @@ module _ {p limit : ℕ} {words codes schedules : List ℕ} {n code i : ℕ} (x 
             (λ r h. pair-schedule (x .accepted) (without-mem code (pairsIn words) h .0)))
 
         pub out-outcome :
-            (lent : ℕ) {second second′ : List ℕ} {answer : Answer}
-            → Outcome (fromTotal p (take (n - 1) codes′) lent) (tableOf p (take (n - 1) codes′) (take (n - 1) schedules′)) second answer second′
-            → Outcome (fromThere p words code lent) (tableOfPairs p (without code (pairsIn words))) second answer second′
+            {second second′ : List ℕ} {answer : Answer} → Rebuilding p (take (n - 1) codes′) (take (n - 1) schedules′) second answer second′
+            → TakenOut p words code second answer second′
         unfolding fromThere
-        out-outcome lent =
-            rebuilt-outcome p lent (without code (pairsIn words)) out-codes out-schedules (rw (present-is, lt-ltb i n index-lt))
+        out-outcome {second} =
+            rebuilt-outcome p (length second) (without code (pairsIn words)) out-codes out-schedules (rw (present-is, lt-ltb i n index-lt))

@@ -9,8 +9,12 @@ use Rattle.table.specs.Answers.{Answer, given, refused, outside}
 use Rattle.audit.specs.Check.{checkOf}
 use Rattle.audit.specs.Pairs.{pairsIn}
 use Rattle.editor.specs.Edit.{without, withPair, tableOfPairs, insertOf, removeOf, Inserted, Removed}
-use Rattle.editor.specs.Edited.{fromFull, fromThere, Outcome}
+use Rattle.editor.specs.Edited.{Outcome, fromFull, PutIn, fromThere, TakenOut}
 use Rattle.editor.proofs.Edits.{refusal}
+
+-- the answer is a refusal
+abbrev pub Refusing : Answer → Type 0
+Refusing answer = (number : ℕ) × (value : ℕ) × (answer ≡ refused number value)
 
 module _ (p limit : ℕ) (words : List ℕ) (code : ℕ) (second : List ℕ) where
   -- ---- put in
@@ -33,16 +37,13 @@ module _ (p limit : ℕ) (words : List ℕ) (code : ℕ) (second : List ℕ) whe
 
       module _ (scheduled : outside 1 999 schedule ≡ false) where
         pub insert-refused :
-            (number value : ℕ) → checkOf p limit words ≡ refused number value
-            → Inserted p limit words code schedule second (refused number value) second
+            (answer : Answer) → answer ≡ checkOf p limit words → Refusing answer → Inserted p limit words code schedule second answer second
         unfolding insertOf
-        insert-refused number value bad = inserted (rw (in-range, scheduled, bad)) (refusal number value refl)
+        insert-refused answer e (number, value, bad) = rw bad (inserted (rw (in-range, scheduled, sym e ∙ bad)) (refusal number value refl))
 
         pub insert-done :
             {answer : Answer} {second′ : List ℕ} (values : List ℕ) → checkOf p limit words ≡ given values
-            → Outcome (fromFull p limit words code schedule (length second)) (tableOfPairs p (withPair code schedule (pairsIn words))) second
-            answer second′
-            → Inserted p limit words code schedule second answer second′
+            → PutIn p limit words code schedule second answer second′ → Inserted p limit words code schedule second answer second′
         unfolding insertOf fromFull
         insert-done values good o = inserted (rw (in-range, scheduled, good)) o
 
@@ -59,14 +60,12 @@ module _ (p limit : ℕ) (words : List ℕ) (code : ℕ) (second : List ℕ) whe
   remove-51 bad = removed (rw bad) (refusal 51 0 refl)
 
   module _ (in-range : outside 1 (p - 1) code ≡ false) where
-    pub remove-refused :
-        (number value : ℕ) → checkOf p limit words ≡ refused number value → Removed p limit words code second (refused number value) second
+    pub remove-refused : (answer : Answer) → answer ≡ checkOf p limit words → Refusing answer → Removed p limit words code second answer second
     unfolding removeOf
-    remove-refused number value bad = removed (rw (in-range, bad)) (refusal number value refl)
+    remove-refused answer e (number, value, bad) = rw bad (removed (rw (in-range, sym e ∙ bad)) (refusal number value refl))
 
     pub remove-done :
         {answer : Answer} {second′ : List ℕ} (values : List ℕ) → checkOf p limit words ≡ given values
-        → Outcome (fromThere p words code (length second)) (tableOfPairs p (without code (pairsIn words))) second answer second′
-        → Removed p limit words code second answer second′
+        → TakenOut p words code second answer second′ → Removed p limit words code second answer second′
     unfolding removeOf fromThere
     remove-done values good o = removed (rw (in-range, good)) o

@@ -1,15 +1,13 @@
 // Putting one code in and taking one out, into a second buffer (document 01, "Put in, take out"). The old table is read only.
-ghost use Prim.Native.Nat.{_+_, _-_, _<_, _≤_};
+ghost use Prim.Native.Nat.{_+_, _<_, _≤_};
 ghost use mathlib.Core.Bool.{cond};
 ghost use mathlib.Core.Path.{_≡_};
 ghost use lib.Dec.{eqb};
-ghost use lib.ListN.{length};
 ghost use Rattle.hash.specs.Theorems.{Prime};
-ghost use Rattle.table.specs.TwoLevel.{tableOf};
-ghost use Rattle.audit.specs.Pairs.{pairsIn};
 ghost use Rattle.audit.specs.WellFormed.{WellFormed};
-ghost use Rattle.editor.specs.Edit.{without, withPair, tableOfPairs, Inserted, Removed};
-ghost use Rattle.editor.specs.Edited.{editedOf, fromTotal, fromFull, fromThere, Outcome, Listable};
+ghost use Rattle.search.specs.Searchable.{mostCodes};
+ghost use Rattle.editor.specs.Edit.{Inserted, Removed};
+ghost use Rattle.editor.specs.Edited.{editedOf, Listable, InRange, Rebuilding, PutIn, TakenOut};
 use crate::lists::leave_out;
 use crate::lists::position;
 use crate::lists::put_first;
@@ -43,14 +41,16 @@ pub enum Edited {
 
 // From 54 on: builds a changed list.
 fn rebuild(p: u32, limit: u32, codes: &[u32], schedules: &[u32], second: &mut [u32]) -> Edited
-    requires { ⌜ (Prime p) × ((limit ≤ 2048) × Listable p limit (now codes) (now schedules)) ⌝ }
-    ensures { λ r. ⌜ Outcome (fromTotal p (now (codes .entry)) (length (now (second .entry)))) (tableOf p (now (codes .entry)) (now (schedules .entry))) (now (second .entry)) (editedOf r) (now (second .exit)) ⌝ }
+    requires { ⌜ Prime p ⌝ }
+    requires { ⌜ limit ≤ mostCodes ⌝ }
+    requires { ⌜ Listable p limit (now codes) (now schedules) ⌝ }
+    ensures { λ r. ⌜ Rebuilding p (now (codes .entry)) (now (schedules .entry)) (now (second .entry)) (editedOf r) (now (second .exit)) ⌝ }
 {
     let built = build_at(p, limit, codes, schedules, second);
     match built {
         BuildAnswer::Built(total) => Edited::Rebuilt(total),
         BuildAnswer::TooShort(total) => Edited::TooShort(total),
-        // none of 1 to 5 holds
+        // never: none of 1 to 5 holds of a changed list
         _ => Edited::Full,
     }
 }
@@ -68,9 +68,11 @@ fn grown(n: usize, i: usize) -> usize
 
 // From 53 on: puts a pair first in the lists of an accepted table, in place of the code's own.
 fn put_in(p: u32, limit: u32, words: &[u32], code: u32, schedule: u32, second: &mut [u32]) -> Edited
-    requires { ⌜ (Prime p) × ((limit ≤ 2048) × WellFormed p limit (now words)) ⌝ }
-    requires { ⌜ (1 ≤ code) × ((code < p) × ((1 ≤ schedule) × (schedule ≤ 999))) ⌝ }
-    ensures { λ r. ⌜ Outcome (fromFull p limit (now (words .entry)) code schedule (length (now (second .entry)))) (tableOfPairs p (withPair code schedule (pairsIn (now (words .entry))))) (now (second .entry)) (editedOf r) (now (second .exit)) ⌝ }
+    requires { ⌜ Prime p ⌝ }
+    requires { ⌜ limit ≤ mostCodes ⌝ }
+    requires { ⌜ WellFormed p limit (now words) ⌝ }
+    requires { ⌜ InRange p code schedule ⌝ }
+    ensures { λ r. ⌜ PutIn p limit (now (words .entry)) code schedule (now (second .entry)) (editedOf r) (now (second .exit)) ⌝ }
 {
     let mut codes = [0u32; ROOM];
     let mut schedules = [0u32; ROOM];
@@ -88,8 +90,10 @@ fn put_in(p: u32, limit: u32, words: &[u32], code: u32, schedule: u32, second: &
 
 // From 55 on: leaves the code's pair out of the lists of an accepted table.
 fn take_out(p: u32, limit: u32, words: &[u32], code: u32, second: &mut [u32]) -> Edited
-    requires { ⌜ (Prime p) × ((limit ≤ 2048) × WellFormed p limit (now words)) ⌝ }
-    ensures { λ r. ⌜ Outcome (fromThere p (now (words .entry)) code (length (now (second .entry)))) (tableOfPairs p (without code (pairsIn (now (words .entry))))) (now (second .entry)) (editedOf r) (now (second .exit)) ⌝ }
+    requires { ⌜ Prime p ⌝ }
+    requires { ⌜ limit ≤ mostCodes ⌝ }
+    requires { ⌜ WellFormed p limit (now words) ⌝ }
+    ensures { λ r. ⌜ TakenOut p (now (words .entry)) code (now (second .entry)) (editedOf r) (now (second .exit)) ⌝ }
 {
     let mut codes = [0u32; ROOM];
     let mut schedules = [0u32; ROOM];
@@ -114,7 +118,8 @@ pub fn insert_at(
     schedule: u32,
     second: &mut [u32],
 ) -> Edited
-    requires { ⌜ (Prime p) × (limit ≤ 2048) ⌝ }
+    requires { ⌜ Prime p ⌝ }
+    requires { ⌜ limit ≤ mostCodes ⌝ }
     ensures { λ r. ⌜ Inserted p limit (now (words .entry)) code schedule (now (second .entry)) (editedOf r) (now (second .exit)) ⌝ }
 {
     if outside(1, p - 1, code) {
@@ -132,7 +137,8 @@ pub fn insert_at(
 
 // Taking out for a prime p and a limit on the codes of a table.
 pub fn remove_at(p: u32, limit: u32, words: &[u32], code: u32, second: &mut [u32]) -> Edited
-    requires { ⌜ (Prime p) × (limit ≤ 2048) ⌝ }
+    requires { ⌜ Prime p ⌝ }
+    requires { ⌜ limit ≤ mostCodes ⌝ }
     ensures { λ r. ⌜ Removed p limit (now (words .entry)) code (now (second .entry)) (editedOf r) (now (second .exit)) ⌝ }
 {
     if outside(1, p - 1, code) {
@@ -145,16 +151,17 @@ pub fn remove_at(p: u32, limit: u32, words: &[u32], code: u32, second: &mut [u32
     take_out(p, limit, words, code, second)
 }
 
-// Puts a code in with its schedule, in place of the one that it has: the second buffer takes what the build makes of the changed list of pairs.
-// Gives the new total; the words after it are kept. Refused by 51, 52, as the check refuses the old table, by 53 or 54: then the second buffer is kept.
+// Puts a code in with its schedule, in place of the one that it has. The second buffer takes what the build makes of the changed list, even
+// where the old multipliers are not the least. Gives the new total; the words after it are kept. Refused by 51, by 52, as the check refuses
+// the old table, by 53, or by 54 with the new total: then the second buffer is kept.
 pub fn insert(words: &[u32], code: u32, schedule: u32, second: &mut [u32]) -> Edited
     ensures { λ r. ⌜ Inserted 65537 2048 (now (words .entry)) code schedule (now (second .entry)) (editedOf r) (now (second .exit)) ⌝ }
 {
     insert_at(65537, 2048, words, code, schedule, second)
 }
 
-// Takes a code out: the second buffer takes what the build makes of the pairs that are left. Gives the new total; the words after it are
-// kept. Refused by 51, as the check refuses the old table, by 55 or 54: then the second buffer is kept.
+// Takes a code out. The second buffer takes what the build makes of the pairs that are left. Gives the new total; the words after it are kept.
+// Refused by 51, as the check refuses the old table, by 55, or by 54 with the new total: then the second buffer is kept.
 pub fn remove(words: &[u32], code: u32, second: &mut [u32]) -> Edited
     ensures { λ r. ⌜ Removed 65537 2048 (now (words .entry)) code (now (second .entry)) (editedOf r) (now (second .exit)) ⌝ }
 {

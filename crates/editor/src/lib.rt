@@ -1,3 +1,3 @@
 // Put in, take out.
 pub mod edit;
-pub mod lists;
+mod lists;

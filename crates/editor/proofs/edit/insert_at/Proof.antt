@@ -9,6 +9,7 @@ use Rattle.table.specs.Answers.{outside}
 use Rattle.table.proofs.Laws.{within}
 use Rattle.audit.specs.Checked.{checkedOf}
 use Rattle.audit.proofs.Reading.{refuses, well-formed}
+use Rattle.editor.specs.Edited.{InRange}
 use Rattle.editor.proofs.Outcomes.{insert-51, insert-52, insert-refused, insert-done}
 use Rattle.editor.proofs.edit.insert_at.Statement.{statement}
 use Rattle.editor.proofs.edit.insert_at.Tie as tie
@@ -31,9 +32,8 @@ returns-2 c = insert-52 _ _ _ _ _ _ (in-range (c .before .before)) (sym (c .befo
 returns-3 : tie.Need-returns-3
 returns-3 c =
     let d = c .before in
-    let r = refuses (d .check-at .result) (c .match .keys2) in
-    rw (r .2)
-    (insert-refused _ _ _ _ _ _ (in-range (d .before .before .before)) (scheduled (d .before)) (r .0) (r .1) (sym (d .check-at .ensures) ∙ r .2))
+    insert-refused _ _ _ _ _ _ (in-range (d .before .before .before)) (scheduled (d .before)) (checkedOf (d .check-at .result)) (d .check-at .ensures)
+    (refuses (d .check-at .result) (c .match .keys2))
 
 put-in-requires : tie.Need-put-in-requires
 put-in-requires c κs =
@@ -43,7 +43,9 @@ put-in-requires c κs =
     let code = within 1 (s .args .p - 1) (s .args .code) (in-range (d .before .before .before)) in
     let schedule = within 1 999 (s .args .schedule) (scheduled (d .before)) in
     let accepted = sym (d .check-at .ensures) ∙ ap checkedOf (t .enum-told .given .1) in
-    ((s .pre .0, (s .pre .1, well-formed _ _ _ _ accepted)), (code .0, (omega arith, (schedule .0, schedule .1))))
+    let range : InRange (s .args .p) (s .args .code) (s .args .schedule)
+    = record { code-from-one = code .0; code-below = omega arith; schedule-from-one = schedule .0; schedule-to-999 = schedule .1 } in
+    (s .pre .0, (s .pre .1, (well-formed _ _ _ _ accepted, range)))
 
 returns-4 : tie.Need-returns-4
 returns-4 c =

@@ -10,26 +10,36 @@ use Rattle.editor.proofs.Edits.{Indexed, indexed, refusal, full, room-l
 use Rattle.editor.proofs.edit.put_in.Statement.{statement}
 use Rattle.editor.proofs.edit.put_in.Tie as tie
 
-abbrev root : tie.After-position → tie.Start
-root c = c .before .before .before .before .before .before .before .before .before .before .before
+-- ---- the places
 
--- the code's index among the pairs that are written
+abbrev written : tie.After-position → tie.After-write-pairs
+written c = c .before .before .before .before .before .before
+
+abbrev root : tie.After-position → tie.Start
+root c = written c .before .before .before .before .before
+
+abbrev put : tie.After-put-first2 → tie.After-put-first
+put c = c .before .before .before
+
+abbrev tested : tie.After-put-first → tie.Else1
+tested c = c .before .before
+
+-- ---- the code's index among the pairs that are written; it is in the table, or the table is not full
+
 found :
     (c : tie.After-position)
-    → Indexed (root c .args .p) (root c .args .limit) (root c .args .words .now)
-    (c .before .before .before .before .before .before .write-pairs .last .1 .0)
-    (c .before .before .before .before .before .before .write-pairs .last .1 .1 .0) (c .before .before .wide .result) (root c .args .code)
-    (c .position .result)
+    → Indexed (root c .args .p) (root c .args .limit) (root c .args .words .now) (written c .write-pairs .last .1 .0)
+    (written c .write-pairs .last .1 .1 .0) (c .before .before .wide .result) (root c .args .code) (c .position .result)
 found c =
-    indexed _ _ _ (root c .pre .0 .1 .1) (c .before .before .wide .ensures .value)
-    (c .before .before .before .before .before .before .write-pairs .ensures) (c .position .ensures)
+    indexed _ _ _ (root c .pre .1 .1 .0) (c .before .before .wide .ensures .value) (written c .write-pairs .ensures) (c .position .ensures)
 
--- it is in the table, or the table is not full
 room : (c : tie.Else1) → c .before .before .position .result ≡ root (c .before .before) .args .limit → ⊥
 room c e = c .if1 .left (e ∙ sym (c .before .wide2 .ensures .value))
 
 small : (c : tie.Else1) → c .before .before .position .result < 2048
-small c = omega (arith, room-left (found (c .before .before)) (room c), root (c .before .before) .pre .0 .1 .0)
+small c = omega (arith, room-left (found (c .before .before)) (room c), root (c .before .before) .pre .1 .0)
+
+-- ---- the needs
 
 slice-aggregate-position : tie.Need-slice-aggregate-position
 slice-aggregate-position c = sym (length-take-le _ _ (search needs))
@@ -41,16 +51,16 @@ put-first-requires : tie.Need-put-first-requires
 put-first-requires c κs = omega (arith, small (c .before))
 
 put-first-requires-2 : tie.Need-put-first-requires-2
-put-first-requires-2 c κs = omega (arith, small (c .before .before .before .before))
+put-first-requires-2 c κs = omega (arith, small (tested (c .before .before)))
 
 few : (c : tie.After-grown) → c .grown .result ≤ 2048
 few c =
-    let e = c .before .before .before .before .before .before .before in
+    let second = c .before .before in
+    let e = tested (put second) in
     omega (
       arith,
-      put-few (found (e .before .before)) (room e) _ _ _ _ (c .grown .ensures) (c .before .before .before .before .before .put-first .ensures)
-          (c .before .before .put-first2 .ensures),
-      root (e .before .before) .pre .0 .1 .0,
+      put-few (found (e .before .before)) (room e) _ _ _ _ (c .grown .ensures) (put second .put-first .ensures) (second .put-first2 .ensures),
+      root (e .before .before) .pre .1 .0,
     )
 
 array-share-prefix-codes-2 : tie.Need-array-share-prefix-codes-2
@@ -68,23 +78,22 @@ slice-aggregate-rebuild-2 c = sym (length-take-le _ _ (omega (arith, few (c .bef
 rebuild-requires : tie.Need-rebuild-requires
 rebuild-requires c κs =
     let g = c .before .before .before in
-    let e = g .before .before .before .before .before .before .before in
-    let s = root (e .before .before) in (
-      s .pre .0 .0,
-      (
-        s .pre .0 .1 .0,
-        put-listable (found (e .before .before)) (room e) _ _ _ _ (g .grown .ensures) (g .before .before .before .before .before .put-first .ensures)
-            (g .before .before .put-first2 .ensures) (s .pre .1 .0) (s .pre .1 .1 .0) (s .pre .1 .1 .1 .0) (s .pre .1 .1 .1 .1),
-      ),
-    )
+    let second = g .before .before in
+    let e = tested (put second) in
+    let s = root (e .before .before) in
+    let listable =
+    put-listable (found (e .before .before)) (room e) _ _ _ _ (g .grown .ensures) (put second .put-first .ensures)
+    (second .put-first2 .ensures) (s .pre .1 .1 .1) in
+    (s .pre .0, (s .pre .1 .0, listable))
 
 returns-2 : tie.Need-returns-2
 returns-2 c =
-    let g = c .before .before .before .before .before .before in
-    let e = g .before .before .before .before .before .before .before in
-    put-outcome (found (e .before .before)) (room e) _ _ _ _ (g .grown .ensures) (g .before .before .before .before .before .put-first .ensures)
-    (g .before .before .put-first2 .ensures) _
-    (c .before .before .rebuild .ensures)
+    let r = c .before .before in
+    let g = r .before .before .before .before in
+    let second = g .before .before in
+    let e = tested (put second) in
+    put-outcome (found (e .before .before)) (room e) _ _ _ _ (g .grown .ensures) (put second .put-first .ensures)
+    (second .put-first2 .ensures) (r .rebuild .ensures)
 
 pub put-in-spec : {M : Type 1} → statement M
 put-in-spec =

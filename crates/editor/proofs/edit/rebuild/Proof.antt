@@ -1,9 +1,7 @@
 -- `editor::edit::rebuild` meets its contract, case by case of the build's answer.
 -- Assumes nothing.
 use mathlib.Core.List.{[], _∷_}
-use mathlib.Core.Path.{ap}
 use borrow.Author.Needs.{needs}
-use Rattle.builder.specs.Built.{builtOf}
 use Rattle.editor.proofs.Rebuilt.{built, short, no-other}
 use Rattle.editor.proofs.edit.rebuild.Statement.{statement}
 use Rattle.editor.proofs.edit.rebuild.Tie as tie

@@ -23,8 +23,8 @@ returns c = remove-51 _ _ _ _ _ (sym (c .before .outside .ensures) ∙ c .if1 .t
 returns-2 : tie.Need-returns-2
 returns-2 c =
     let d = c .before in
-    let r = refuses (d .check-at .result) (c .match .keys2) in
-    rw (r .2) (remove-refused _ _ _ _ _ (in-range (d .before)) (r .0) (r .1) (sym (d .check-at .ensures) ∙ r .2))
+    remove-refused _ _ _ _ _ (in-range (d .before)) (checkedOf (d .check-at .result)) (d .check-at .ensures)
+    (refuses (d .check-at .result) (c .match .keys2))
 
 take-out-requires : tie.Need-take-out-requires
 take-out-requires c κs =

@@ -10,22 +10,33 @@ use Rattle.editor.proofs.Edits.{Indexed, indexed, refusal, gone, index-
 use Rattle.editor.proofs.edit.take_out.Statement.{statement}
 use Rattle.editor.proofs.edit.take_out.Tie as tie
 
-abbrev root : tie.After-position → tie.Start
-root c = c .before .before .before .before .before .before .before .before .before .before .before
+-- ---- the places
 
--- the code's index among the pairs that are written
+abbrev written : tie.After-position → tie.After-write-pairs
+written c = c .before .before .before .before .before .before
+
+abbrev root : tie.After-position → tie.Start
+root c = written c .before .before .before .before .before
+
+abbrev out : tie.After-leave-out2 → tie.After-leave-out
+out c = c .before .before .before
+
+abbrev tested : tie.After-leave-out → tie.Else1
+tested c = c .before .before
+
+-- ---- the code's index among the pairs that are written, all of which it is below
+
 found :
     (c : tie.After-position)
-    → Indexed (root c .args .p) (root c .args .limit) (root c .args .words .now)
-    (c .before .before .before .before .before .before .write-pairs .last .1 .0)
-    (c .before .before .before .before .before .before .write-pairs .last .1 .1 .0) (c .before .before .wide .result) (root c .args .code)
-    (c .position .result)
+    → Indexed (root c .args .p) (root c .args .limit) (root c .args .words .now) (written c .write-pairs .last .1 .0)
+    (written c .write-pairs .last .1 .1 .0) (c .before .before .wide .result) (root c .args .code) (c .position .result)
 found c =
-    indexed _ _ _ (root c .pre .1 .1) (c .before .before .wide .ensures .value)
-    (c .before .before .before .before .before .before .write-pairs .ensures) (c .position .ensures)
+    indexed _ _ _ (root c .pre .1 .1) (c .before .before .wide .ensures .value) (written c .write-pairs .ensures) (c .position .ensures)
 
 there : (c : tie.Else1) → c .before .position .result < c .before .before .before .wide .result
 there c = index-lt (found (c .before)) (c .if1 .left)
+
+-- ---- the needs
 
 slice-aggregate-position : tie.Need-slice-aggregate-position
 slice-aggregate-position c = sym (length-take-le _ _ (search needs))
@@ -37,10 +48,10 @@ leave-out-requires : tie.Need-leave-out-requires
 leave-out-requires c κs = omega (arith, there (c .before))
 
 leave-out-requires-2 : tie.Need-leave-out-requires-2
-leave-out-requires-2 c κs = omega (arith, there (c .before .before .before .before))
+leave-out-requires-2 c κs = omega (arith, there (tested (c .before .before)))
 
 sub-m : tie.Need-sub-m
-sub-m c = omega (arith, there (c .before .before .before .before .before .before))
+sub-m c = omega (arith, there (tested (out (c .before))))
 
 slice-aggregate-rebuild : tie.Need-slice-aggregate-rebuild
 slice-aggregate-rebuild c = sym (length-take-le _ _ (search needs))
@@ -50,22 +61,19 @@ slice-aggregate-rebuild-2 c = sym (length-take-le _ _ (search needs))
 
 rebuild-requires : tie.Need-rebuild-requires
 rebuild-requires c κs =
-    let g = c .before .before .before in
-    let e = g .before .before .before .before .before .before in
+    let second = c .before .before .before .before in
+    let e = tested (out second) in
     let s = root (e .before) in (
       s .pre .0,
-      (
-        s .pre .1 .0,
-        out-listable (found (e .before)) (e .if1 .left) _ _ (g .before .before .before .before .leave-out .ensures) (g .before .leave-out2 .ensures),
-      ),
+      (s .pre .1 .0, out-listable (found (e .before)) (e .if1 .left) _ _ (out second .leave-out .ensures) (second .leave-out2 .ensures)),
     )
 
 returns-2 : tie.Need-returns-2
 returns-2 c =
-    let g = c .before .before .before .before .before .before in
-    let e = g .before .before .before .before .before .before in
-    out-outcome (found (e .before)) (e .if1 .left) _ _ (g .before .before .before .before .leave-out .ensures) (g .before .leave-out2 .ensures) _
-    (c .before .before .rebuild .ensures)
+    let r = c .before .before in
+    let second = r .before .before .before .before .before in
+    let e = tested (out second) in
+    out-outcome (found (e .before)) (e .if1 .left) _ _ (out second .leave-out .ensures) (second .leave-out2 .ensures) (r .rebuild .ensures)
 
 pub take-out-spec : {M : Type 1} → statement M
 take-out-spec =
