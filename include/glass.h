@@ -7,7 +7,9 @@
  * Lent memory. An array is lent as a pointer and the number of its elements. The pointer is aligned for uint32_t, and the elements may be read; those
  * of an array that is not const may be written too. Where the number is 0, the pointer need only be non-null and aligned (any non-null uint32_t
  * pointer will do): nothing is read or written through it. Arrays that are written may overlap no other array of the same call. A refusal changes nothing
- * that was lent. Each function uses at most about 64 KiB of stack.
+ * that was lent.
+ *
+ * Stack. glass_pairs, glass_insert and glass_remove use up to 96 KiB, glass_build up to 32 KiB, the others less than 1 KiB.
  *
  * Answers. Every function answers a number and a value:
  *
