@@ -1,6 +1,4 @@
-// Check, and reading an accepted table back.
+// The check of a table from anywhere.
 mod blocks;
 pub mod check;
 mod conditions;
-pub mod pairs;
-mod sorting;

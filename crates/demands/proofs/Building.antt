@@ -11,7 +11,7 @@ use Rattle.table.specs.TwoLevel.{wordsNeeded, tableOf}
 use Rattle.table.specs.Lookup.{lookupOf}
 use Rattle.table.proofs.Contents.{Tabled, tabled}
 use Rattle.audit.specs.WellFormed.{WellFormed}
-use Rattle.audit.specs.Pairs.{codesOf, schedulesOf, pairsIn}
+use Rattle.reader.specs.Pairs.{codesOf, schedulesOf, pairsIn}
 use Rattle.audit.proofs.Lookups.{lookup-range}
 use Rattle.builder.specs.Build.{builtWords}
 use Rattle.demands.specs.Lists.{Valid, Listed, rightAnswer, enough, lookedAt}

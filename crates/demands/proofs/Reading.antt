@@ -13,9 +13,9 @@ use Rattle.table.specs.Words.{codeCount}
 use Rattle.table.specs.Lookup.{lookupOf}
 use Rattle.audit.specs.Check.{checkOf}
 use Rattle.audit.specs.WellFormed.{WellFormed}
-use Rattle.audit.specs.Pairs.{Pair, codesOf, schedulesOf, pairsIn, pairsOf}
+use Rattle.reader.specs.Pairs.{Pair, codesOf, schedulesOf, pairsIn, pairsOf}
 use Rattle.audit.proofs.WellFormed.{check-exactly}
-use Rattle.audit.proofs.PairLaws as Pairs
+use Rattle.reader.proofs.PairLaws as Pairs
 use Rattle.demands.specs.Lists.{Valid, Listed}
 use Rattle.demands.specs.Theorems.{Reading}
 use Rattle.demands.proofs.Settle.{lookedAt-eight, settle}

@@ -11,7 +11,7 @@ use Rattle.table.specs.TwoLevel.{wordsNeeded, tableOf}
 use Rattle.table.specs.Lookup.{lookupOf}
 use Rattle.audit.specs.Check.{checkOf}
 use Rattle.audit.specs.WellFormed.{WellFormed}
-use Rattle.audit.specs.Pairs.{codesOf, schedulesOf, pairsIn, pairsOf}
+use Rattle.reader.specs.Pairs.{codesOf, schedulesOf, pairsIn, pairsOf}
 use Rattle.builder.specs.Build.{buildOf, builtWords}
 use Rattle.demands.specs.Lists.{Valid, Listed, SamePairs, rightAnswer, enough, AgreeAt, lookedAt}
 

@@ -14,7 +14,7 @@ use lib.Seq.{take-length}
 use Rattle.hash.specs.Hash.{Codes}
 use Rattle.hash.proofs.Members.{codes-cons, codes-tail, codes-new}
 use Rattle.table.proofs.First.{First}
-use Rattle.audit.specs.Pairs.{Pair, codesOf}
+use Rattle.reader.specs.Pairs.{Pair, codesOf}
 use Rattle.builder.specs.Build.{among}
 use Rattle.builder.proofs.Among.{among-at}
 use Rattle.builder.proofs.Valid.{among-none}

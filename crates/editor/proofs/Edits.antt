@@ -20,9 +20,9 @@ use Rattle.table.specs.Words.{codeCount}
 use Rattle.table.specs.TwoLevel.{tableOf}
 use Rattle.table.proofs.First.{first-is}
 use Rattle.audit.specs.WellFormed.{WellFormed}
-use Rattle.audit.specs.Pairs.{Pair, codesOf, schedulesOf, pairsIn}
-use Rattle.audit.specs.ReadBack.{PairsWritten}
-use Rattle.audit.proofs.PairLaws.{pairs-length, pairs-codes, pair-schedule}
+use Rattle.reader.specs.Pairs.{Pair, codesOf, schedulesOf, pairsIn}
+use Rattle.reader.specs.ReadBack.{PairsWritten}
+use Rattle.reader.proofs.PairLaws.{pairs-length, pairs-codes, pair-schedule}
 use Rattle.builder.proofs.Valid.{list-accepted}
 use Rattle.editor.specs.Edit.{without, withPair, present, rebuilt, tableOfPairs}
 use Rattle.editor.specs.Edited.{Outcome, Listable, InRange, fromTotal, fromFull, fromThere, Rebuilding, PutIn, TakenOut}

@@ -9,7 +9,7 @@ use Rattle.table.specs.Answers.{Answer, given, refuse, orRefused, outside, fill
 use Rattle.table.specs.Words.{codeCount}
 use Rattle.table.specs.TwoLevel.{wordsNeeded, tableOf}
 use Rattle.audit.specs.Check.{checkOf}
-use Rattle.audit.specs.Pairs.{Pair, codesOf, schedulesOf, pairsIn}
+use Rattle.reader.specs.Pairs.{Pair, codesOf, schedulesOf, pairsIn}
 use Rattle.builder.specs.Build.{among}
 
 -- the pairs without a code

@@ -9,7 +9,7 @@ use Rattle.table.specs.Answers.{Answer, given, refused, refuse, filled}
 use Rattle.table.specs.Words.{codeCount}
 use Rattle.table.specs.TwoLevel.{wordsNeeded, tableOf}
 use Rattle.audit.specs.Checked.{checkedOf}
-use Rattle.audit.specs.Pairs.{pairsIn}
+use Rattle.reader.specs.Pairs.{pairsIn}
 use Rattle.builder.specs.Build.{listOr}
 use Rattle.editor.specs.Edit.{without, withPair, present, rebuilt, tableOfPairs}
 use Rattle.editor.specs.declared.edit.Edited.{Edited}

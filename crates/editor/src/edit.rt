@@ -13,9 +13,9 @@ use crate::lists::position;
 use crate::lists::put_first;
 use audit::check::Checked;
 use audit::check::check_at;
-use audit::pairs::write_pairs;
 use builder::build::BuildAnswer;
 use builder::build::build_at;
+use reader::pairs::write_pairs;
 use table::words::outside;
 use table::words::wide;
 

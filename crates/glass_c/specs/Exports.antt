@@ -4,7 +4,7 @@ use mathlib.Core.List.{List}
 use mathlib.Core.Path.{_≡_}
 use lib.ListN.{length}
 use Rattle.table.specs.Answers.{filled}
-use Rattle.audit.specs.Pairs.{codesOf, schedulesOf, pairsIn, pairsOf}
+use Rattle.reader.specs.Pairs.{codesOf, schedulesOf, pairsIn, pairsOf}
 use Rattle.builder.specs.Build.{buildOf, builtWords}
 use Rattle.editor.specs.Edit.{without, withPair, tableOfPairs, insertOf, removeOf}
 use Rattle.glass_c.specs.declared.GlassAnswer.{GlassAnswer}

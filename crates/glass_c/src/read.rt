@@ -1,9 +1,9 @@
 // The answers of reading back, for C.
-ghost use Rattle.audit.specs.ReadBack.{readOf};
+ghost use Rattle.reader.specs.ReadBack.{readOf};
 ghost use Rattle.glass_c.specs.Numbers.{Shown};
 use crate::GlassAnswer;
 use crate::checked;
-use audit::pairs::ReadBack;
+use reader::pairs::ReadBack;
 
 pub fn shown(a: ReadBack) -> GlassAnswer
     ensures { λ r. ⌜ Shown (readOf a) r ⌝ }

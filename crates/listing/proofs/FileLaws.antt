@@ -12,9 +12,9 @@ use lib.Seq.{take-at}
 use Rattle.table.specs.Answers.{Answer, given, refused}
 use Rattle.table.specs.Words.{codeCount}
 use Rattle.audit.specs.Check.{checkOf}
-use Rattle.audit.specs.Pairs.{Pair, codesOf, schedulesOf, pairsIn, pairsOf, PairsRead}
+use Rattle.reader.specs.Pairs.{Pair, codesOf, schedulesOf, pairsIn, pairsOf, PairsRead}
 use Rattle.audit.specs.WellFormed.{WellFormed}
-use Rattle.audit.proofs.PairLaws.{pairs-length}
+use Rattle.reader.proofs.PairLaws.{pairs-length}
 use Rattle.audit.proofs.WellFormed.{accepted-or-refused, check-exactly}
 use Rattle.listing.specs.Added.{Added}
 use Rattle.listing.specs.Files.{FileListed, numberedOf, tableLines, textOf}

@@ -7,7 +7,7 @@ use native.Mathlib.Numerals.{add-one}
 use native.Mathlib.Omega.{arith}
 use lib.ListN.{length, drop, getD, length-append}
 use lib.Seq.{drop-cons}
-use Rattle.audit.specs.Pairs.{Pair, codesOf, schedulesOf}
+use Rattle.reader.specs.Pairs.{Pair, codesOf, schedulesOf}
 use Rattle.listing.specs.Added.{Added}
 use Rattle.listing.specs.Listing.{decimal, refusedLine, headLine, pairLines}
 use Rattle.listing.specs.Lines.{pairLine, paired}

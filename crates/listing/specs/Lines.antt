@@ -1,7 +1,7 @@
 -- The lines of a listing one by one: what the contracts of the functions that write them cite.
 use Prim.Native.Nat.{ℕ}
 use mathlib.Core.List.{List, [], _∷_, _++_}
-use Rattle.audit.specs.Pairs.{Pair}
+use Rattle.reader.specs.Pairs.{Pair}
 use Rattle.listing.specs.Listing.{decimal, space, newline}
 
 -- CODE SCHEDULE

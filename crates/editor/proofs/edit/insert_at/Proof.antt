@@ -8,7 +8,7 @@ use borrow.Author.Needs.{needs}
 use Rattle.table.specs.Answers.{outside}
 use Rattle.table.proofs.Laws.{within}
 use Rattle.audit.specs.Checked.{checkedOf}
-use Rattle.audit.proofs.Reading.{refuses, well-formed}
+use Rattle.audit.proofs.Answered.{refuses, well-formed}
 use Rattle.editor.specs.Edited.{InRange}
 use Rattle.editor.proofs.Outcomes.{insert-51, insert-52, insert-refused, insert-done}
 use Rattle.editor.proofs.edit.insert_at.Statement.{statement}

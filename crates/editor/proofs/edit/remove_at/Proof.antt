@@ -6,7 +6,7 @@ use mathlib.Core.Path.{_≡_, sym, ap, _∙_}
 use borrow.Author.Needs.{needs}
 use Rattle.table.specs.Answers.{outside}
 use Rattle.audit.specs.Checked.{checkedOf}
-use Rattle.audit.proofs.Reading.{refuses, well-formed}
+use Rattle.audit.proofs.Answered.{refuses, well-formed}
 use Rattle.editor.proofs.Outcomes.{remove-51, remove-refused, remove-done}
 use Rattle.editor.proofs.edit.remove_at.Statement.{statement}
 use Rattle.editor.proofs.edit.remove_at.Tie as tie

@@ -1,0 +1,61 @@
+-- Reading a table back (document 01, "Read back").
+use Prim.Native.Nat.{ℕ, _+_, _*_}
+use mathlib.Core.Bool.{Bool, cond, _||_}
+use mathlib.Core.List.{List, [], _∷_, map}
+use mathlib.Core.Path.{_≡_}
+use lib.Dec.{eqb, ltb, leb}
+use lib.ListN.{length, take, drop}
+use Rattle.table.specs.Answers.{Answer, given, refuse, orRefused, filled}
+use Rattle.table.specs.Words.{codeCount, cellCount}
+use Rattle.audit.specs.Check.{checkOf, allCodes}
+
+-- a code with its schedule
+pub record Pair : Type 0 where
+  pub code : ℕ
+  pub schedule : ℕ
+
+abbrev pub codesOf : List Pair → List ℕ
+codesOf pairs = map (λ (r : Pair). r .code) pairs
+
+abbrev pub schedulesOf : List Pair → List ℕ
+schedulesOf pairs = map (λ (r : Pair). r .schedule) pairs
+
+-- the schedules of all cells
+abbrev pub allSchedules : List ℕ → List ℕ
+allSchedules words = take (cellCount words) (drop (3 + 2 * codeCount words + cellCount words) words)
+
+-- the pairs of the cells that hold a code, by rising cell
+unfoldable pub stored : List ℕ → List ℕ → List Pair
+stored [] schedules = []
+stored (a ∷ codes) [] = []
+stored (a ∷ codes) (s ∷ schedules) =
+    cond (eqb a 0) (stored codes schedules) (record { code = a; schedule = s } ∷ stored codes schedules)
+
+-- a pair put before the first of a higher or equal code
+unfoldable pub place : Pair → List Pair → List Pair
+place r [] = r ∷ []
+place r (x ∷ pairs) = cond (leb (r .code) (x .code)) (r ∷ x ∷ pairs) (x ∷ place r pairs)
+
+-- the same pairs by rising code
+unfoldable pub rising : List Pair → List Pair
+unfolding place
+rising [] = []
+rising (r ∷ pairs) = place r (rising pairs)
+
+-- the pairs of a table, by rising code
+unfoldable pub pairsIn : List ℕ → List Pair
+unfolding stored rising
+pairsIn words = rising (stored (allCodes words) (allSchedules words))
+
+-- the answer, and both lent arrays at exit
+unfoldable pub pairsOf : ℕ → ℕ → List ℕ → List ℕ → List ℕ → Answer
+unfolding checkOf
+pairsOf p limit words codes schedules =
+    orRefused (checkOf p limit words)
+    (refuse (ltb (length codes) (codeCount words) || ltb (length schedules) (codeCount words)) 41 (codeCount words)
+    (given (codeCount words ∷ [])))
+
+pub record PairsRead (p limit : ℕ) (words codes schedules : List ℕ) (answer : Answer) (codes′ schedules′ : List ℕ) : Type 0 where
+  pub answers : answer ≡ pairsOf p limit words codes schedules
+  pub codes-at-exit : codes′ ≡ filled (pairsOf p limit words codes schedules) (codesOf (pairsIn words)) codes
+  pub schedules-at-exit : schedules′ ≡ filled (pairsOf p limit words codes schedules) (schedulesOf (pairsIn words)) schedules

@@ -1,0 +1,3 @@
+// Reading an accepted table back.
+pub mod pairs;
+mod sorting;
