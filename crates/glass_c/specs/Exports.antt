@@ -7,8 +7,8 @@ use Rattle.table.specs.Answers.{filled}
 use Rattle.reader.specs.Pairs.{codesOf, schedulesOf, pairsIn, pairsOf}
 use Rattle.builder.specs.Build.{buildOf, builtWords}
 use Rattle.editor.specs.Edit.{without, withPair, tableOfPairs, insertOf, removeOf}
-use Rattle.glass_c.specs.declared.GlassAnswer.{GlassAnswer}
-use Rattle.glass_c.specs.Numbers.{Shown}
+use Rattle.shown.specs.declared.GlassAnswer.{GlassAnswer}
+use Rattle.shown.specs.Numbers.{Shown}
 
 pub record BuildShown (p limit : ℕ) (codes schedules words : List ℕ) (r : GlassAnswer) (words′ : List ℕ) : Type 0 where
   pub shows : Shown (buildOf p limit codes schedules (length words)) r

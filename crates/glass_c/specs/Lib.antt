@@ -1,3 +1,2 @@
--- The number and the value that C sees of each answer, and what each function leaves in lent memory.
-pub mod Numbers
+-- What C sees of the calls that fill lent memory.
 pub mod Exports

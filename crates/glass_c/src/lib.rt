@@ -1,50 +1,37 @@
 // The C interface (include/glass.h): each function shows the answer of the proved one as a number and a value.
-mod built;
-mod checked;
-mod edited;
-mod fired;
-mod found;
-mod read;
-
 ghost use Rattle.table.specs.Lookup.{lookupOf};
 ghost use Rattle.table.specs.Panel.{panelOf};
 ghost use Rattle.audit.specs.Check.{checkOf};
-ghost use Rattle.glass_c.specs.Numbers.{Shown};
+ghost use Rattle.shown.specs.Numbers.{Shown};
 ghost use Rattle.glass_c.specs.Exports.{BuildShown, PairsShown, InsertShown, RemoveShown};
-
-// 0 with the result, 1000 for an absent or unknown code, or a refusal's number with what comes with it.
-#[repr(C)]
-pub struct GlassAnswer {
-    pub number: u32,
-    pub value: u32,
-}
+use shown::GlassAnswer;
 
 #[no_mangle]
 pub extern "C" fn glass_build(codes: &[u32], schedules: &[u32], words: &mut [u32]) -> GlassAnswer
     ensures { λ r. ⌜ BuildShown 65537 2048 (now (codes .entry)) (now (schedules .entry)) (now (words .entry)) r (now (words .exit)) ⌝ }
 {
-    built::shown(builder::build::build(codes, schedules, words))
+    shown::built::shown(builder::build::build(codes, schedules, words))
 }
 
 #[no_mangle]
 pub extern "C" fn glass_check(words: &[u32]) -> GlassAnswer
     ensures { λ r. ⌜ Shown (checkOf 65537 2048 (now (words .entry))) r ⌝ }
 {
-    checked::shown(audit::check::check(words))
+    shown::checked::shown(audit::check::check(words))
 }
 
 #[no_mangle]
 pub extern "C" fn glass_lookup(words: &[u32], code: u32) -> GlassAnswer
     ensures { λ r. ⌜ Shown (lookupOf 65537 2048 (now (words .entry)) code) r ⌝ }
 {
-    found::shown(table::lookup::lookup(words, code))
+    shown::found::shown(table::lookup::lookup(words, code))
 }
 
 #[no_mangle]
 pub extern "C" fn glass_panel(words: &[u32], codes: &[u32]) -> GlassAnswer
     ensures { λ r. ⌜ Shown (panelOf 65537 2048 (now (words .entry)) (now (codes .entry))) r ⌝ }
 {
-    fired::shown(table::panel::panel(words, codes))
+    shown::fired::shown(table::panel::panel(words, codes))
 }
 
 #[no_mangle]
@@ -56,6 +43,7 @@ pub extern "C" fn glass_pairs(
     ensures { λ r. ⌜ PairsShown 65537 2048 (now (words .entry)) (now (codes .entry)) (now (schedules .entry)) r (now (codes .exit)) (now (schedules .exit)) ⌝ }
 {
     read::shown(reader::pairs::pairs(words, codes, schedules))
+    shown::read::shown(audit::pairs::pairs(words, codes, schedules))
 }
 
 #[no_mangle]
@@ -67,12 +55,12 @@ pub extern "C" fn glass_insert(
 ) -> GlassAnswer
     ensures { λ r. ⌜ InsertShown 65537 2048 (now (words .entry)) code schedule (now (second .entry)) r (now (second .exit)) ⌝ }
 {
-    edited::shown(editor::edit::insert(words, code, schedule, second))
+    shown::edited::shown(editor::edit::insert(words, code, schedule, second))
 }
 
 #[no_mangle]
 pub extern "C" fn glass_remove(words: &[u32], code: u32, second: &mut [u32]) -> GlassAnswer
     ensures { λ r. ⌜ RemoveShown 65537 2048 (now (words .entry)) code (now (second .entry)) r (now (second .exit)) ⌝ }
 {
-    edited::shown(editor::edit::remove(words, code, second))
+    shown::edited::shown(editor::edit::remove(words, code, second))
 }

@@ -16,11 +16,12 @@ use Rattle.reader.specs.Pairs.{Pair, codesOf, schedulesOf, pairsIn, pairsOf, Pa
 use Rattle.audit.specs.WellFormed.{WellFormed}
 use Rattle.reader.proofs.PairLaws.{pairs-length}
 use Rattle.audit.proofs.WellFormed.{accepted-or-refused, check-exactly}
-use Rattle.listing.specs.Added.{Added}
+use Rattle.text.specs.Added.{Added}
 use Rattle.listing.specs.Files.{FileListed, numberedOf, tableLines, textOf}
 use Rattle.listing.specs.declared.files.Numbered.the-variants.{Given, Refused}
-use Rattle.listing.specs.Listing.{wordsOf, refusedLine, tableText, fileOf, listingOf}
-use Rattle.listing.proofs.Added.{kept}
+use Rattle.text.specs.Bytes.{wordsOf}
+use Rattle.listing.specs.Listing.{refusedLine, tableText, fileOf, listingOf}
+use Rattle.text.proofs.Added.{kept}
 use Rattle.listing.proofs.LineLaws.{paired-same}
 
 -- the text for bytes, by their number

@@ -1,7 +1,4 @@
--- Pieces of memory written one after the other; decimal digits; the lines; the words of bytes.
-pub mod Added
-pub mod Decimal
+-- The lines; the text of a file; the listings to compare by.
 pub mod LineLaws
-pub mod WordLaws
 pub mod FileLaws
 pub mod Printed

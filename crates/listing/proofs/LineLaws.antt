@@ -8,10 +8,11 @@ use native.Mathlib.Omega.{arith}
 use lib.ListN.{length, drop, getD, length-append}
 use lib.Seq.{drop-cons}
 use Rattle.reader.specs.Pairs.{Pair, codesOf, schedulesOf}
-use Rattle.listing.specs.Added.{Added}
-use Rattle.listing.specs.Listing.{decimal, refusedLine, headLine, pairLines}
+use Rattle.text.specs.Added.{Added}
+use Rattle.text.specs.Decimal.{decimal}
+use Rattle.listing.specs.Listing.{refusedLine, headLine, pairLines}
 use Rattle.listing.specs.Lines.{pairLine, paired}
-use Rattle.listing.proofs.Decimal.{decimal-few}
+use Rattle.text.proofs.Decimal.{decimal-few}
 
 pub refused-length :
     (number value : ℕ) → length (refusedLine number value) ≡ 10 + length (decimal number) + length (decimal value)

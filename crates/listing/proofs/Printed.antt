@@ -5,7 +5,9 @@ use Rattle.table.specs.Answers.{firstOf}
 use Rattle.table.specs.Words.{blockOf, cellIn, ownCell}
 use Rattle.audit.specs.Check.{badStart, badBlockMultiplier, badCell, misplaced, codesIn, badSquare, checkOf}
 use Rattle.reader.specs.Pairs.{stored, place, rising, pairsIn}
-use Rattle.listing.specs.Listing.{wordsOf, digitsOf, decimal, refusedLine, headLine, pairLines, tableText, fileOf, listingOf}
+use Rattle.text.specs.Bytes.{wordsOf}
+use Rattle.text.specs.Decimal.{digitsOf, decimal}
+use Rattle.listing.specs.Listing.{refusedLine, headLine, pairLines, tableText, fileOf, listingOf}
 use Rattle.listing.specs.Printed.{Printed}
 
 pub printed : Printed

@@ -1,8 +1,6 @@
--- In reading order: the words of a table file and the text that lists it; then what the contracts cite besides, a word of four bytes, the
--- lines one by one, and what a piece that is written leaves in lent memory.
+-- In reading order: the text that lists a table file; then what the contracts cite besides, the lines one by one and the text for an answer;
+-- then listings to compare by.
 pub mod Listing
-pub mod Bytes
 pub mod Lines
-pub mod Added
 pub mod Files
 pub mod Printed

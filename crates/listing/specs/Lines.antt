@@ -2,7 +2,8 @@
 use Prim.Native.Nat.{ℕ}
 use mathlib.Core.List.{List, [], _∷_, _++_}
 use Rattle.reader.specs.Pairs.{Pair}
-use Rattle.listing.specs.Listing.{decimal, space, newline}
+use Rattle.text.specs.Decimal.{decimal}
+use Rattle.listing.specs.Listing.{space, newline}
 
 -- CODE SCHEDULE
 unfoldable pub pairLine : ℕ → ℕ → List ℕ

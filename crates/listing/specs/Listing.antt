@@ -1,32 +1,16 @@
 -- The text that lists a table file (document 01, "The program that lists"), for any prime p and limit on the codes.
 -- A byte is a number below 256. Words of the text are written as their bytes, with the letters beside them.
-use Prim.Native.Nat.{ℕ, zero, suc, _+_, _*_, _/_, _%_}
-use mathlib.Core.Bool.{Bool, not, cond}
+use Prim.Native.Nat.{ℕ, _%_}
+use mathlib.Core.Bool.{not}
 use mathlib.Core.List.{List, [], _∷_, _++_}
 use lib.Dec.{eqb, ltb}
 use lib.ListN.{length}
+use Rattle.text.specs.Bytes.{wordsOf}
+use Rattle.text.specs.Decimal.{decimal}
 use Rattle.table.specs.Answers.{Answer, given, absent, unknown, refused, refuse}
 use Rattle.table.specs.Words.{codeCount, cellCount, multiplier}
 use Rattle.audit.specs.Check.{checkOf}
 use Rattle.reader.specs.Pairs.{Pair, pairsIn}
-
--- the words of a file: four bytes each, least byte first; a last part of less than four bytes is no word
-unfoldable pub wordsOf : List ℕ → List ℕ
-wordsOf [] = []
-wordsOf (a ∷ []) = []
-wordsOf (a ∷ b ∷ []) = []
-wordsOf (a ∷ b ∷ c ∷ []) = []
-wordsOf (a ∷ b ∷ c ∷ d ∷ bytes) = (a + 256 * b + 65536 * c + 16777216 * d) ∷ wordsOf bytes
-
--- the last `digits` decimal digits of a number, without leading zeros
-unfoldable pub digitsOf : ℕ → ℕ → List ℕ
-digitsOf zero x = []
-digitsOf (suc digits) x = cond (ltb x 10) ((48 + x) ∷ []) (digitsOf digits (x / 10) ++ ((48 + x % 10) ∷ []))
-
--- a word in decimal: a number below 2^32 has at most ten digits
-unfoldable pub decimal : ℕ → List ℕ
-unfolding digitsOf
-decimal x = digitsOf 10 x
 
 abbrev pub space : List ℕ
 space = 32 ∷ []

@@ -2,18 +2,18 @@
 use crate::lines::put_head;
 use crate::lines::put_pairs;
 use crate::lines::put_refused;
-use crate::words::words_of;
 use audit::check::Checked;
 use reader::pairs::ReadBack;
 use reader::pairs::pairs_at;
 use table::words::wide;
+use text::words::words_of;
 ghost use Prim.Native.Nat.{_≤_};
 ghost use mathlib.Core.Path.{_≡_};
 ghost use lib.ListN.{length};
 ghost use Rattle.audit.specs.Check.{checkOf};
 ghost use Rattle.audit.specs.Checked.{checkedOf};
 ghost use Rattle.reader.specs.ReadBack.{readOf};
-ghost use Rattle.listing.specs.Added.{Added};
+ghost use Rattle.text.specs.Added.{Added};
 ghost use Rattle.listing.specs.Files.{FileListed, numberedOf, tableLines, textOf};
 
 // An answer in the paper's numbers.

@@ -3,8 +3,6 @@ ghost use Rattle.listing.specs.Files.{FileListed};
 
 mod files;
 mod lines;
-mod text;
-mod words;
 
 // Writes the text for the bytes of a file into the first lent bytes, and answers its length: the lines of its table, or the one line of its
 // refusal. The bytes after it are kept. No text is longer than what is lent.

@@ -2,7 +2,7 @@
 // number and the value that C sees.
 ghost use Prim.Native.Nat.{_≤_};
 ghost use lib.ListN.{length};
-use glass_c::GlassAnswer;
+use shown::GlassAnswer;
 
 fn print_line(name: &[u8], n: u32, a: GlassAnswer) {
     let number = a.number;

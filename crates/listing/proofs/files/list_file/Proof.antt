@@ -4,7 +4,7 @@ use mathlib.Core.Path.{sym}
 use native.Mathlib.Omega.{arith}
 use borrow.Author.Needs.{needs}
 use lib.Seq.{length-take-le}
-use Rattle.listing.proofs.Added.{kept, up-to}
+use Rattle.text.proofs.Added.{kept, up-to}
 use Rattle.listing.proofs.FileLaws.{too-long, ragged, whole, file-listed}
 use Rattle.listing.proofs.LineLaws.{refused-fits}
 use Rattle.listing.proofs.files.list_file.Statement.{statement}

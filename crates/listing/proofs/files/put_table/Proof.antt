@@ -3,7 +3,7 @@
 use native.Mathlib.Omega.{arith}
 use Rattle.listing.specs.Files.{tableLines}
 use Rattle.listing.specs.Lines.{paired}
-use Rattle.listing.proofs.Added.{both, kept}
+use Rattle.text.proofs.Added.{both, kept}
 use Rattle.listing.proofs.LineLaws.{head-fits, head-end, lines-few, paired-length}
 use Rattle.listing.proofs.files.put_table.Statement.{statement}
 use Rattle.listing.proofs.files.put_table.Tie as tie

@@ -3,7 +3,7 @@
 use native.Mathlib.Omega.{arith}
 use borrow.Author.Needs.{needs}
 use Rattle.listing.specs.Listing.{headLine}
-use Rattle.listing.proofs.Added.{both}
+use Rattle.text.proofs.Added.{both}
 use Rattle.listing.proofs.LineLaws.{head-length}
 use Rattle.listing.proofs.lines.put_head.Statement.{statement}
 use Rattle.listing.proofs.lines.put_head.Tie as tie

@@ -3,7 +3,7 @@
 use native.Mathlib.Omega.{arith}
 use borrow.Author.Needs.{needs}
 use Rattle.listing.specs.Lines.{pairLine}
-use Rattle.listing.proofs.Added.{both}
+use Rattle.text.proofs.Added.{both}
 use Rattle.listing.proofs.LineLaws.{pair-length}
 use Rattle.listing.proofs.lines.put_pair.Statement.{statement}
 use Rattle.listing.proofs.lines.put_pair.Tie as tie

@@ -5,7 +5,7 @@ use native.Mathlib.Omega.{arith}
 use lib.ListN.{length, drop, drop-of-length-le}
 use Rattle.listing.specs.Listing.{pairLines}
 use Rattle.listing.specs.Lines.{pairLine, paired}
-use Rattle.listing.proofs.Added.{SoFar, start, more, next-fits, kept, all}
+use Rattle.text.proofs.Added.{SoFar, start, more, next-fits, kept, all}
 use Rattle.listing.proofs.LineLaws.{lines-at}
 use Rattle.listing.proofs.lines.put_pairs.Statement.{statement}
 use Rattle.listing.proofs.lines.put_pairs.Tie as tie

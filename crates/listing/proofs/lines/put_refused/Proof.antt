@@ -3,7 +3,7 @@
 use native.Mathlib.Omega.{arith}
 use borrow.Author.Needs.{needs}
 use Rattle.listing.specs.Listing.{refusedLine}
-use Rattle.listing.proofs.Added.{both}
+use Rattle.text.proofs.Added.{both}
 use Rattle.listing.proofs.LineLaws.{refused-length}
 use Rattle.listing.proofs.lines.put_refused.Statement.{statement}
 use Rattle.listing.proofs.lines.put_refused.Tie as tie

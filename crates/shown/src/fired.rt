@@ -1,6 +1,6 @@
 // The answers of a panel, for C.
 ghost use Rattle.table.specs.Fired.{firedOf};
-ghost use Rattle.glass_c.specs.Numbers.{Shown};
+ghost use Rattle.shown.specs.Numbers.{Shown};
 use crate::GlassAnswer;
 use table::panel::Fired;
 

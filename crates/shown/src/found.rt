@@ -1,6 +1,6 @@
 // The answers of a lookup, for C.
 ghost use Rattle.table.specs.Found.{foundOf};
-ghost use Rattle.glass_c.specs.Numbers.{Shown};
+ghost use Rattle.shown.specs.Numbers.{Shown};
 use crate::GlassAnswer;
 use table::lookup::Found;
 

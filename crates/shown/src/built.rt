@@ -1,6 +1,6 @@
 // The answers of a build, for C.
 ghost use Rattle.builder.specs.Built.{builtOf};
-ghost use Rattle.glass_c.specs.Numbers.{Shown};
+ghost use Rattle.shown.specs.Numbers.{Shown};
 use crate::GlassAnswer;
 use builder::build::BuildAnswer;
 

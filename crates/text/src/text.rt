@@ -3,8 +3,8 @@ ghost use Prim.Native.Nat.{_+_, _<_, _≤_};
 ghost use mathlib.Core.Path.{_≡_};
 ghost use mathlib.Core.List.{[], _∷_};
 ghost use lib.ListN.{length};
-ghost use Rattle.listing.specs.Added.{Added};
-ghost use Rattle.listing.specs.Listing.{decimal};
+ghost use Rattle.text.specs.Added.{Added};
+ghost use Rattle.text.specs.Decimal.{decimal};
 
 // One byte.
 pub fn put(text: &mut [u8], at: usize, byte: u8) -> usize

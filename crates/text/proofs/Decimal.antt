@@ -8,7 +8,7 @@ use native.Mathlib.Decide.{decLt}
 use native.Mathlib.Omega.{arith}
 use borrow.Author.Tests.{lt-ltb, le-ltb}
 use lib.ListN.{length, length-append}
-use Rattle.listing.specs.Listing.{digitsOf, decimal}
+use Rattle.text.specs.Decimal.{digitsOf, decimal}
 
 -- one digit more is allowed than the number has at most
 digits-same : (n x : ℕ) → x < 10 ^ suc n → digitsOf (suc n) x ≡ digitsOf (suc (suc n)) x

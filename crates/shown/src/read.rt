@@ -1,6 +1,6 @@
 // The answers of reading back, for C.
 ghost use Rattle.reader.specs.ReadBack.{readOf};
-ghost use Rattle.glass_c.specs.Numbers.{Shown};
+ghost use Rattle.shown.specs.Numbers.{Shown};
 use crate::GlassAnswer;
 use crate::checked;
 use reader::pairs::ReadBack;

@@ -4,7 +4,7 @@ use mathlib.Core.List.{List}
 use mathlib.Core.Path.{_≡_}
 use lib.ListN.{length, getD}
 use Rattle.table.specs.Answers.{Answer, given, absent, unknown, refused}
-use Rattle.glass_c.specs.declared.GlassAnswer.{GlassAnswer}
+use Rattle.shown.specs.declared.GlassAnswer.{GlassAnswer}
 
 -- 0 for a result, 1000 for an absent or unknown code, otherwise the refusal's number
 abbrev pub numberOf : Answer → ℕ

@@ -2,9 +2,9 @@
 ghost use Prim.Native.Nat.{_+_, _*_, _≤_};
 ghost use mathlib.Core.Path.{_≡_};
 ghost use lib.ListN.{length};
-ghost use Rattle.listing.specs.Added.{Added};
-ghost use Rattle.listing.specs.Bytes.{Byte, wordAt};
-ghost use Rattle.listing.specs.Listing.{wordsOf};
+ghost use Rattle.text.specs.Added.{Added};
+ghost use Rattle.text.specs.Bytes.{Byte, wordAt};
+ghost use Rattle.text.specs.Bytes.{wordsOf};
 
 // A byte as a part of a word.
 fn wide(x: u8) -> u32

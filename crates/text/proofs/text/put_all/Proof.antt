@@ -7,9 +7,9 @@ use native.Mathlib.Numerals.{add-one}
 use native.Mathlib.Omega.{arith}
 use lib.ListN.{length, getD, drop, drop-of-length-le}
 use lib.Seq.{drop-cons}
-use Rattle.listing.proofs.Added.{SoFar, start, more, next-fits, kept, all}
-use Rattle.listing.proofs.text.put_all.Statement.{statement}
-use Rattle.listing.proofs.text.put_all.Tie as tie
+use Rattle.text.proofs.Added.{SoFar, start, more, next-fits, kept, all}
+use Rattle.text.proofs.text.put_all.Statement.{statement}
+use Rattle.text.proofs.text.put_all.Tie as tie
 
 abbrev Inv-loop : tie.InvT-loop
 Inv-loop text₀ at string end₀ i₀ text end i = SoFar string (drop i string) at text₀ end text

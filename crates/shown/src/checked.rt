@@ -1,6 +1,6 @@
 // The answers of a check, for C.
 ghost use Rattle.audit.specs.Checked.{checkedOf};
-ghost use Rattle.glass_c.specs.Numbers.{Shown};
+ghost use Rattle.shown.specs.Numbers.{Shown};
 use crate::GlassAnswer;
 use audit::check::Checked;
 

@@ -1,6 +1,6 @@
 // The answers of putting in and taking out, for C.
 ghost use Rattle.editor.specs.Edited.{editedOf};
-ghost use Rattle.glass_c.specs.Numbers.{Shown};
+ghost use Rattle.shown.specs.Numbers.{Shown};
 use crate::GlassAnswer;
 use crate::checked;
 use editor::edit::Edited;

@@ -8,8 +8,8 @@ use native.Mathlib.Numerals.{add-one}
 use native.Mathlib.Omega.{arith}
 use lib.ListN.{length, drop, getD}
 use lib.Seq.{drop-cons}
-use Rattle.listing.specs.Listing.{wordsOf}
-use Rattle.listing.specs.Bytes.{wordAt}
+use Rattle.text.specs.Bytes.{wordsOf}
+use Rattle.text.specs.Bytes.{wordAt}
 
 -- four bytes, and those after them
 four :

@@ -8,17 +8,17 @@ use borrow.Author.Needs.{needs}
 use borrow.Fn.Kinds.{In}
 use borrow.Fn.PlainCycle.{Measures, is, falls, and}
 use lib.ListN.{length}
-use Rattle.listing.specs.Added.{Added}
-use Rattle.listing.specs.Listing.{decimal}
-use Rattle.listing.proofs.Added.{both, kept}
-use Rattle.listing.proofs.Decimal.{decimal-one, decimal-more, decimal-longer}
-use Rattle.listing.proofs.text.put_decimal.Reads as put-decimal
-use Rattle.listing.proofs.text.put_decimal.Kinds as put-decimal-kinds
-use Rattle.listing.proofs.text.+put_decimal.Lts-put_decimal as put-decimal-lts
-use Rattle.listing.proofs.text.digit.Reads as digit-reads
-use Rattle.listing.proofs.text.put.Reads as put-reads
-use Rattle.listing.proofs.text.+put_decimal.{statement}
-use Rattle.listing.proofs.text.+put_decimal.Tie.{close}
+use Rattle.text.specs.Added.{Added}
+use Rattle.text.specs.Decimal.{decimal}
+use Rattle.text.proofs.Added.{both, kept}
+use Rattle.text.proofs.Decimal.{decimal-one, decimal-more, decimal-longer}
+use Rattle.text.proofs.text.put_decimal.Reads as put-decimal
+use Rattle.text.proofs.text.put_decimal.Kinds as put-decimal-kinds
+use Rattle.text.proofs.text.+put_decimal.Lts-put_decimal as put-decimal-lts
+use Rattle.text.proofs.text.digit.Reads as digit-reads
+use Rattle.text.proofs.text.put.Reads as put-reads
+use Rattle.text.proofs.text.+put_decimal.{statement}
+use Rattle.text.proofs.text.+put_decimal.Tie.{close}
 
 abbrev μ-put-decimal : Measures 1 put-decimal-kinds.ps ℕ
 μ-put-decimal κs a = a .1 .1 .0

@@ -5,12 +5,12 @@ use mathlib.Core.List.{List}
 use mathlib.Core.Path.{_≡_}
 use native.Mathlib.Omega.{arith}
 use lib.ListN.{length, drop, set, length-drop}
-use Rattle.listing.specs.Bytes.{wordAt}
-use Rattle.listing.specs.Listing.{wordsOf}
-use Rattle.listing.proofs.Added.{SoFar, start, more, one, kept, all}
-use Rattle.listing.proofs.WordLaws.{word-then, no-word}
-use Rattle.listing.proofs.words.words_of.Statement.{statement}
-use Rattle.listing.proofs.words.words_of.Tie as tie
+use Rattle.text.specs.Bytes.{wordAt}
+use Rattle.text.specs.Bytes.{wordsOf}
+use Rattle.text.proofs.Added.{SoFar, start, more, one, kept, all}
+use Rattle.text.proofs.WordLaws.{word-then, no-word}
+use Rattle.text.proofs.words.words_of.Statement.{statement}
+use Rattle.text.proofs.words.words_of.Tie as tie
 
 abbrev Inv-loop : tie.InvT-loop
 Inv-loop bytes words₀ n i₀ words i = SoFar (wordsOf bytes) (wordsOf (drop (4 * i) bytes)) 0 words₀ i words

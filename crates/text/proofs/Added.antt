@@ -8,7 +8,7 @@ use native.Mathlib.Numerals.{add-one}
 use native.Mathlib.Omega.{arith}
 use lib.ListN.{length, take, drop, set, length-append, length-drop, take-append-drop}
 use lib.Seq.{set-split, take-at, drop-at, drop-drop, length-take-le}
-use Rattle.listing.specs.Added.{Added}
+use Rattle.text.specs.Added.{Added}
 
 -- one word
 pub one : (x at : ℕ) (old : List ℕ) → at < length old → Added (x ∷ []) at old (at + 1) (set old at x)

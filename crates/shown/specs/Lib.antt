@@ -1,0 +1,2 @@
+-- The number and the value that C sees of each answer.
+pub mod Numbers
