@@ -42,8 +42,7 @@ pub extern "C" fn glass_pairs(
 ) -> GlassAnswer
     ensures { λ r. ⌜ PairsShown 65537 2048 (now (words .entry)) (now (codes .entry)) (now (schedules .entry)) r (now (codes .exit)) (now (schedules .exit)) ⌝ }
 {
-    read::shown(reader::pairs::pairs(words, codes, schedules))
-    shown::read::shown(audit::pairs::pairs(words, codes, schedules))
+    shown::read::shown(reader::pairs::pairs(words, codes, schedules))
 }
 
 #[no_mangle]
