@@ -14,9 +14,10 @@ use Rattle.table.proofs.Chosen.{few-cells, no-cells}
 use Rattle.table.proofs.Contents.{needed-is, table-length}
 use Rattle.search.specs.Searchable.{Searchable}
 use Rattle.search.specs.Blocks.{LeastBlocks}
-use Rattle.builder.specs.Build.{badCode, badSchedule, repeated, listOr, buildOf, builtWords, Built}
+use Rattle.refusals.specs.Repeats.{repeated}
+use Rattle.writer.specs.Writing.{Writable}
+use Rattle.builder.specs.Build.{badCode, badSchedule, listOr, buildOf, builtWords, Built}
 use Rattle.builder.specs.Built.{acceptedOf, Accepted}
-use Rattle.builder.specs.Writing.{Writable}
 
 -- no such index is found
 pub passes : {i m : ℕ} (n : ℕ) → i ≡ m → n ≤ i → n ≤ m

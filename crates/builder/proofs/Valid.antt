@@ -1,23 +1,20 @@
--- A list that is valid is refused by none of 1 to 5: each test fails at every pair.
+-- A list that is valid is refused by none of 1 to 5: each test fails at every pair. One that neither 3 nor 5 refuses is a list of codes.
 -- Assumes nothing.
-use Prim.Native.Nat.{ℕ, suc, _-_, _<_, _≤_}
+use Prim.Native.Nat.{ℕ, _-_, _<_, _≤_}
 use native.Mathlib.Omega.{arith}
-use mathlib.Core.Bool.{false}
-use mathlib.Core.List.{List, [], _∷_}
-use mathlib.Core.Path.{_≡_, refl, sym, _∙_}
-use borrow.Author.Tests.{eq-eqb, ne-eqb, le-ltb}
+use mathlib.Core.Bool.{true≢false}
+use mathlib.Core.List.{List}
+use mathlib.Core.Path.{_≡_, sym, _∙_}
+use borrow.Author.Tests.{eq-eqb, le-ltb}
 use lib.ListN.{length, getD, take}
 use lib.Seq.{getD-take, length-take-le}
 use Rattle.hash.specs.Hash.{Codes}
-use Rattle.table.specs.Answers.{Answer}
-use Rattle.table.proofs.First.{Below, none-refused}
-use Rattle.builder.specs.Build.{among, badCode, badSchedule, repeated, listOr}
-
-pub among-none : (a : ℕ) (codes : List ℕ) → ((i : ℕ) → i < length codes → getD codes i 0 ≡ a → ⊥) → among a codes ≡ false
-unfolding among
-among-none a [] none = refl
-among-none a (x ∷ codes) none =
-    rw (ne-eqb a x (λ e. none 0 (omega arith) (sym e))) (among-none a codes (λ i l. none (suc i) (omega arith)))
+use Rattle.table.specs.Answers.{Answer, firstOf}
+use Rattle.table.proofs.First.{Below, first-is, none-refused}
+use Rattle.table.proofs.Laws.{within}
+use Rattle.refusals.specs.Repeats.{repeated}
+use Rattle.refusals.proofs.Among.{among-at, among-none}
+use Rattle.builder.specs.Build.{badCode, badSchedule, listOr}
 
 module _ {p : ℕ} {codes : List ℕ} (c : Codes p codes) where
   codes-in-range : Below (badCode p codes) (length codes)
@@ -47,3 +44,17 @@ module _ {p : ℕ} {codes : List ℕ} (c : Codes p codes) where
             (λ i l. rw (le-ltb (getD schedules i 0) 1 (range i l .0), le-ltb 999 (getD schedules i 0) (range i l .1))),
         none-refused (length codes) (repeated codes) .1 codes-once,
       )
+
+-- a list that neither 3 nor 5 refuses is a list of codes
+pub codes-pass :
+    (p : ℕ) (codes : List ℕ) → length codes ≤ firstOf (length codes) (badCode p codes) → length codes ≤ firstOf (length codes) (repeated codes)
+    → Codes p codes
+unfolding badCode repeated
+codes-pass p codes good new =
+    let range : Below (badCode p codes) (firstOf (length codes) (badCode p codes)) = first-is (length codes) (badCode p codes) .below in
+    let once : Below (repeated codes) (firstOf (length codes) (repeated codes)) = first-is (length codes) (repeated codes) .below in
+    record {
+      positive = λ i l. within 1 (p - 1) (getD codes i 0) (range i (omega arith)) .0;
+      below = λ i l. omega (arith, within 1 (p - 1) (getD codes i 0) (range i (omega arith)));
+      different = λ i j l m e. true≢false (sym (among-at (getD codes j 0) codes i j l (omega arith) e) ∙ once j (omega arith));
+    }

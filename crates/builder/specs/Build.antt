@@ -1,28 +1,20 @@
 -- Building a table from a list (document 01, "Build"), for any prime p and limit on the pairs.
 use Prim.Native.Nat.{ℕ, _-_}
-use mathlib.Core.Bool.{Bool, true, false, not, _||_}
+use mathlib.Core.Bool.{Bool, not}
 use mathlib.Core.List.{List, [], _∷_}
 use mathlib.Core.Path.{_≡_}
 use lib.Dec.{eqb, ltb}
-use lib.ListN.{length, getD, take}
+use lib.ListN.{length, getD}
 use Rattle.table.specs.Answers.{Answer, given, refuse, refuseFirst, outside, filled}
 use Rattle.table.specs.TwoLevel.{wordsNeeded, tableOf}
+use Rattle.refusals.specs.Repeats.{repeated}
 
--- a is among these codes
-unfoldable pub among : ℕ → List ℕ → Bool
-among a [] = false
-among a (x ∷ codes) = eqb a x || among a codes
-
--- conditions 3, 4 and 5 of the pair with index i: its code or schedule out of range, its code equal to an earlier one
+-- conditions 3 and 4 of the pair with index i: its code or schedule out of range; condition 5 is `repeated`
 unfoldable pub badCode : ℕ → List ℕ → ℕ → Bool
 badCode p codes i = outside 1 (p - 1) (getD codes i 0)
 
 unfoldable pub badSchedule : List ℕ → ℕ → Bool
 badSchedule schedules i = outside 1 999 (getD schedules i 0)
-
-unfoldable pub repeated : List ℕ → ℕ → Bool
-unfolding among
-repeated codes i = among (getD codes i 0) (take i codes)
 
 -- the refusals of a list, otherwise what follows
 unfoldable pub listOr : ℕ → ℕ → List ℕ → List ℕ → Answer → Answer

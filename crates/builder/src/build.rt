@@ -6,9 +6,9 @@ ghost use Rattle.hash.specs.Theorems.{Prime};
 ghost use Rattle.search.specs.Searchable.{Searchable, mostCodes};
 ghost use Rattle.builder.specs.Build.{Built};
 ghost use Rattle.builder.specs.Built.{builtOf, Accepted};
-use crate::lists::first_outside;
-use crate::lists::first_repeated;
-use crate::write::write_table;
+use refusals::range::first_outside;
+use refusals::repeats::first_repeated;
+use writer::write::write_table;
 
 pub enum BuildAnswer {
     // the total

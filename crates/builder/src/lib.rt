@@ -1,5 +1,2 @@
-// Build.
+// Building a table from a list.
 pub mod build;
-mod grouping;
-mod lists;
-mod write;

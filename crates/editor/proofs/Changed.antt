@@ -15,9 +15,8 @@ use Rattle.hash.specs.Hash.{Codes}
 use Rattle.hash.proofs.Members.{codes-cons, codes-tail, codes-new}
 use Rattle.table.proofs.First.{First}
 use Rattle.reader.specs.Pairs.{Pair, codesOf}
-use Rattle.builder.specs.Build.{among}
-use Rattle.builder.proofs.Among.{among-at}
-use Rattle.builder.proofs.Valid.{among-none}
+use Rattle.refusals.specs.Repeats.{among}
+use Rattle.refusals.proofs.Among.{among-at, among-none}
 use Rattle.editor.specs.Edit.{without, withPair}
 use Rattle.editor.specs.Lists.{omit}
 

@@ -10,7 +10,7 @@ use Rattle.table.specs.Words.{codeCount}
 use Rattle.table.specs.TwoLevel.{wordsNeeded, tableOf}
 use Rattle.audit.specs.Check.{checkOf}
 use Rattle.reader.specs.Pairs.{Pair, codesOf, schedulesOf, pairsIn}
-use Rattle.builder.specs.Build.{among}
+use Rattle.refusals.specs.Repeats.{among}
 
 -- the pairs without a code
 unfoldable pub without : ℕ → List Pair → List Pair

@@ -4,7 +4,7 @@ use mathlib.Core.Path.{sym}
 use native.Mathlib.Omega.{arith}
 use borrow.Author.Needs.{needs}
 use Rattle.builder.specs.Build.{badCode, badSchedule}
-use Rattle.builder.proofs.Among.{codes-pass}
+use Rattle.builder.proofs.Valid.{codes-pass}
 use Rattle.builder.proofs.Outcomes.{passes, lengths-differ, too-many-pairs, bad-code, bad-schedule, repeated-code, accepted-built}
 use Rattle.builder.proofs.build.build_at.Statement.{statement}
 use Rattle.builder.proofs.build.build_at.Tie as tie

@@ -1,0 +1,3 @@
+-- What the proofs of the functions cite, by topic.
+pub mod Among
+mod Chains
