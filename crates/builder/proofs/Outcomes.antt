@@ -6,15 +6,16 @@ use mathlib.Core.Path.{_≡_, sym, ap, _∙_}
 use native.Mathlib.Decide.{ℕ-discrete}
 use native.Mathlib.Omega.{arith}
 use borrow.Author.Tests.{eq-eqb, ne-eqb, lt-ltb, le-ltb}
-use lib.ListN.{length, getD, drop}
+use lib.ListN.{length, getD, drop, List·getD-append}
 use Rattle.hash.specs.Hash.{cells}
 use Rattle.table.specs.Answers.{Answer, given, refused, outside, firstOf, filled}
 use Rattle.table.specs.TwoLevel.{frontWith, frontOf, tableWith, tableOf, cellsOf, wordsNeeded}
 use Rattle.table.proofs.Chosen.{few-cells, no-cells}
 use Rattle.table.proofs.Contents.{needed-is, table-length}
-use Rattle.search.specs.Searchable.{Searchable}
-use Rattle.search.specs.Blocks.{LeastBlocks}
+use Rattle.search.specs.Searchable.{Searchable, mostCodes}
+use Rattle.search.specs.Blocks.{LeastBlocks, Blocked}
 use Rattle.refusals.specs.Repeats.{repeated}
+use Rattle.writer.specs.Grouping.{Blocks, Loads}
 use Rattle.writer.specs.Writing.{Writable}
 use Rattle.builder.specs.Build.{badCode, badSchedule, listOr, buildOf, builtWords, Built}
 use Rattle.builder.specs.Built.{acceptedOf, Accepted}
@@ -158,3 +159,13 @@ module _ {p k c : ℕ} {codes : List ℕ} (s : Searchable p codes) (f : LeastBlo
               ∙ ap (λ (m : ℕ). tableOf p codes schedules ++ drop m words) (sym size)
               ∙ sym (ap (λ (r : Answer). filled r (tableOf p codes schedules) words) e);
         }
+
+-- ---- what the search for k leaves
+
+module _ {p k : ℕ} {codes blocks counts : List ℕ} (b : Blocked p k codes blocks counts) where
+  pub blocked-blocks : length codes ≤ mostCodes → length blocks ≡ length codes → Blocks p k codes blocks
+  blocked-blocks few same = record { few = few; each = omega arith; blocks-are = b .blocks-are }
+
+  pub blocked-loads : (rest : List ℕ) → length counts ≡ length codes → Loads p k codes (counts ++ rest)
+  blocked-loads rest same =
+      record { counts-are = λ j l. List·getD-append counts rest 0 j (omega arith) ∙ b .loads-are j l }

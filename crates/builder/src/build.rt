@@ -4,6 +4,7 @@ ghost use mathlib.Core.Path.{_≡_};
 ghost use lib.ListN.{length};
 ghost use Rattle.hash.specs.Theorems.{Prime};
 ghost use Rattle.search.specs.Searchable.{Searchable, mostCodes};
+ghost use Rattle.writer.specs.Writing.{Room};
 ghost use Rattle.builder.specs.Build.{Built};
 ghost use Rattle.builder.specs.Built.{builtOf, Accepted};
 use refusals::range::first_outside;
@@ -27,23 +28,108 @@ pub enum BuildAnswer {
     TooShort(u32),
 }
 
-// Builds the table of a list that 1 to 5 do not refuse. The total is worked out before a word is written.
-fn build_accepted(p: u32, codes: &[u32], schedules: &[u32], words: &mut [u32]) -> BuildAnswer
+// Builds the table of a list that 1 to 5 do not refuse, with this room to work in. The total is worked out before a word is written.
+fn build_with(
+    p: u32,
+    codes: &[u32],
+    schedules: &[u32],
+    blocks: &mut [u32],
+    at: &mut [u32],
+    grouped: &mut [u32],
+    twos: &mut [u32],
+    mores: &mut [u32],
+    words: &mut [u32],
+) -> BuildAnswer
     requires { ⌜ Searchable p (now codes) ⌝ }
-    requires { ⌜ length (now schedules) ≡ length (now codes) ⌝ }
+    requires { ⌜ (length (now schedules) ≡ length (now codes)) × (length (now blocks) ≡ length (now codes)) ⌝ }
+    requires { ⌜ Room (length (now codes)) (now at) (now grouped) (now twos) (now mores) ⌝ }
     ensures { λ r. ⌜ Accepted p (now (codes .entry)) (now (schedules .entry)) (now (words .entry)) (builtOf r) (now (words .exit)) ⌝ }
 {
-    let found = search::blocks::blocks_multiplier(p, codes);
+    let n = codes.len();
+    let found = search::blocks::blocks_multiplier(p, codes, blocks, &mut at[..n]);
     let k = found.k;
     let c = found.c;
-    let total = 3 + 2 * codes.len() + 2 * (c as usize);
+    let total = 3 + 2 * n + 2 * (c as usize);
     let given = total as u32;
     let lent = words.len();
     if lent < total {
         return BuildAnswer::TooShort(given);
     }
-    write_table(p, k, c, codes, schedules, &mut words[..total]);
+    write_table(
+        p,
+        k,
+        c,
+        codes,
+        schedules,
+        blocks,
+        at,
+        grouped,
+        twos,
+        mores,
+        &mut words[..total],
+    );
     BuildAnswer::Built(given)
+}
+
+// The same with room of its own: as much as the list needs, since all of it is set to 0 at each call.
+fn build_accepted(p: u32, codes: &[u32], schedules: &[u32], words: &mut [u32]) -> BuildAnswer
+    requires { ⌜ Searchable p (now codes) ⌝ }
+    requires { ⌜ length (now schedules) ≡ length (now codes) ⌝ }
+    ensures { λ r. ⌜ Accepted p (now (codes .entry)) (now (schedules .entry)) (now (words .entry)) (builtOf r) (now (words .exit)) ⌝ }
+{
+    let n = codes.len();
+    if n <= 32 {
+        let mut blocks = [0u32; 32];
+        let mut at = [0u32; 33];
+        let mut grouped = [0u32; 33];
+        let mut twos = [0u32; 32];
+        let mut mores = [0u32; 32];
+        return build_with(
+            p,
+            codes,
+            schedules,
+            &mut blocks[..n],
+            &mut at,
+            &mut grouped,
+            &mut twos,
+            &mut mores,
+            words,
+        );
+    }
+    if n <= 256 {
+        let mut blocks = [0u32; 256];
+        let mut at = [0u32; 257];
+        let mut grouped = [0u32; 257];
+        let mut twos = [0u32; 256];
+        let mut mores = [0u32; 256];
+        return build_with(
+            p,
+            codes,
+            schedules,
+            &mut blocks[..n],
+            &mut at,
+            &mut grouped,
+            &mut twos,
+            &mut mores,
+            words,
+        );
+    }
+    let mut blocks = [0u32; 2048];
+    let mut at = [0u32; 2049];
+    let mut grouped = [0u32; 2049];
+    let mut twos = [0u32; 2048];
+    let mut mores = [0u32; 2048];
+    build_with(
+        p,
+        codes,
+        schedules,
+        &mut blocks[..n],
+        &mut at,
+        &mut grouped,
+        &mut twos,
+        &mut mores,
+        words,
+    )
 }
 
 // Builds the table of a list, for any prime and limit on the pairs. Gives the total; the words after the table are kept.

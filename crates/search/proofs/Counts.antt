@@ -4,7 +4,7 @@
 use Prim.Native.Nat.{ℕ, _+_, _*_, _-_, _<_, _≤_}
 use native.Mathlib.Decide.{ℕ-discrete}
 use native.Mathlib.Omega.{arith}
-use mathlib.Core.Bool.{Bool, cond}
+use mathlib.Core.Bool.{Bool, true, false, cond, true≢false}
 use mathlib.Core.List.{List}
 use mathlib.Core.Path.{_≡_, refl, sym, ap, _∙_}
 use borrow.Author.Tests.{le-leb, lt-leb}
@@ -14,8 +14,9 @@ use lib.Seq.{drop-length, getD-set-same, getD-set-other}
 use Rattle.hash.specs.Hash.{hashOf, load, together, cells}
 use Rattle.hash.proofs.Counting.{load-le, cells-is}
 use Rattle.hash.proofs.Indicators.{indicator, indicator-eq, indicator-ne}
+use Rattle.search.specs.declared.blocks.Count.{Count}
 use Rattle.search.specs.declared.blocks.Count.the-variants.{Fits, TooMany}
-use Rattle.search.specs.Blocks.{countOf}
+use Rattle.search.specs.Blocks.{countOf, Blocked, Counted}
 use Rattle.search.proofs.Ends.{drop-before, together-drop}
 
 -- one count more
@@ -27,20 +28,24 @@ raised counts t u l =
     ]
 
 -- the codes from i on are counted, and the bound is kept
-pub record Counting (p k : ℕ) (codes : List ℕ) (i : ℕ) (counts : List ℕ) (c : ℕ) : Type 0 where
+pub record Counting (p k : ℕ) (codes : List ℕ) (i : ℕ) (blocks counts : List ℕ) (c : ℕ) : Type 0 where
   pub left : i ≤ length codes
+  pub blocked : length blocks ≡ length codes
   pub sized : length counts ≡ length codes
+  pub blocks-are : (t : ℕ) → i ≤ t → t < length codes → getD blocks t 0 ≡ hashOf p k (length codes) (getD codes t 0)
   pub loads : (t : ℕ) → t < length codes → getD counts t 0 ≡ load p k (length codes) t (drop i codes)
   pub count : c + i ≡ length codes + 2 * together p k (length codes) (drop i codes)
   pub bound : c + 2 ≤ 3 * length codes
 
 pub counting-start :
-    {p k : ℕ} {codes counts : List ℕ} {n : ℕ} → 0 < length codes → n ≡ length codes → counts ≡ replicate n 0
-    → Counting p k codes (length codes) counts 0
+    {p k : ℕ} {codes blocks counts : List ℕ} {n : ℕ} → 0 < length codes → length blocks ≡ length codes → n ≡ length codes
+    → counts ≡ replicate n 0 → Counting p k codes (length codes) blocks counts 0
 unfolding load together
-counting-start {p} {k} {codes} {counts} {n} some e zeros =
+counting-start {p} {k} {codes} {blocks} {counts} {n} some same e zeros =
     record {
       left = omega arith;
+      blocked = same;
+      blocks-are = λ t l m. absurd (omega arith);
       sized = ap length zeros ∙ length-replicate {A = ℕ} n 0 ∙ e;
       loads = λ t l. rw (drop-length codes, zeros) (getD-replicate n t 0 0 (omega arith));
       count = rw (drop-length codes) (omega arith);
@@ -49,7 +54,7 @@ counting-start {p} {k} {codes} {counts} {n} some e zeros =
 
 -- the next code is counted in its block t
 module _
-    {p k : ℕ} {codes : List ℕ} {i : ℕ} {counts : List ℕ} {c : ℕ} (h : Counting p k codes i counts c) (pos : 0 < i) (t : ℕ)
+    {p k : ℕ} {codes : List ℕ} {i : ℕ} {blocks counts : List ℕ} {c : ℕ} (h : Counting p k codes i blocks counts c) (pos : 0 < i) (t : ℕ)
     (own : t ≡ hashOf p k (length codes) (getD codes (i - 1) 0)) (l : t < length codes)
   where
     pub counting-load : getD counts t 0 ≤ length codes
@@ -61,11 +66,17 @@ module _
 
     pub counting-more :
         c + (2 * getD counts t 0 + 1) + 2 ≤ 3 * length codes
-        → Counting p k codes (i - 1) (set counts t (getD counts t 0 + 1)) (c + (2 * getD counts t 0 + 1))
+        → Counting p k codes (i - 1) (set blocks (i - 1) t) (set counts t (getD counts t 0 + 1)) (c + (2 * getD counts t 0 + 1))
     unfolding load
     counting-more fits =
         record {
           left = omega (arith, h .left);
+          blocked = length-set blocks (i - 1) t ∙ h .blocked;
+          blocks-are = λ u l v.
+              elim (ℕ-discrete u (i - 1)) [
+                | yes e ↦ rw e (getD-set-same blocks (i - 1) t 0 (omega (arith, h .blocked, h .left)) ∙ own)
+                | no ne ↦ getD-set-other blocks (i - 1) u t 0 ne ∙ h .blocks-are u (omega arith) v
+              ];
           sized = length-set counts t (getD counts t 0 + 1) ∙ h .sized;
           loads = λ u v. rw (drop-before codes i pos (h .left), ← own) (omega (arith, raised counts t u (omega (arith, h .sized)), h .loads u v));
           count = counting-next;
@@ -78,14 +89,33 @@ module _
         (lt-leb (cells p k codes + 2) (3 * length codes)
         (omega (arith, counting-next, cells-is p k codes (omega arith), together-drop p k (length codes) codes (i - 1), h .left)))
 
-pub counting-all :
-    {p k : ℕ} {codes : List ℕ} {i : ℕ} {counts : List ℕ} {c : ℕ} → 0 < length codes → Counting p k codes i counts c → i ≤ 0
-    → countOf p k codes ≡ Fits c
-counting-all {p} {k} {codes} {i} {counts} {c} some h end =
-    let zero-left : i ≡ 0 = omega arith in
-    let e : cells p k codes ≡ c =
-    omega
-    (arith, h .count, cells-is p k codes some, ap (λ (j : ℕ). together p k (length codes) (drop j codes)) zero-left) in
-    ap (λ (b : Bool). cond b (Fits (cells p k codes)) TooMany)
-    (le-leb (cells p k codes + 2) (3 * length codes) (omega (arith, h .bound)))
-    ∙ ap Fits e
+module _
+    {p k : ℕ} {codes : List ℕ} {i : ℕ} {blocks counts : List ℕ} {c : ℕ} (h : Counting p k codes i blocks counts c) (end : i ≤ 0)
+  where
+    none-left : i ≡ 0
+    none-left = omega arith
+
+    pub counting-all : 0 < length codes → countOf p k codes ≡ Fits c
+    counting-all some =
+        let e : cells p k codes ≡ c =
+        omega
+        (arith, h .count, cells-is p k codes some, ap (λ (j : ℕ). together p k (length codes) (drop j codes)) none-left) in
+        ap (λ (b : Bool). cond b (Fits (cells p k codes)) TooMany)
+        (le-leb (cells p k codes + 2) (3 * length codes) (omega (arith, h .bound)))
+        ∙ ap Fits e
+
+    pub counting-blocked : Blocked p k codes blocks counts
+    counting-blocked =
+        record {
+          blocks-are = λ t l. h .blocks-are t (omega arith) l;
+          loads-are = rw none-left at (h .loads);
+        }
+
+-- where the cells are too many nothing is left
+fitting : Count → Bool
+fitting (Fits c) = true
+fitting TooMany = false
+
+pub over-leaves : {p k : ℕ} {codes blocks counts : List ℕ} → countOf p k codes ≡ TooMany → Counted p k codes TooMany blocks counts
+unfolding fitting
+over-leaves over = record { answers = sym over; leaves = λ c fits. absurd (true≢false (sym (ap fitting fits))) }

@@ -13,7 +13,7 @@ use Rattle.table.proofs.Chosen.{blocks-least}
 use Rattle.search.specs.declared.blocks.Count.{Count}
 use Rattle.search.specs.declared.blocks.Count.the-variants.{Fits, TooMany}
 use Rattle.search.specs.Searchable.{Searchable}
-use Rattle.search.specs.Blocks.{keeps, countOf, LeastBlocks}
+use Rattle.search.specs.Blocks.{keeps, countOf, Blocked, LeastBlocks}
 use Rattle.search.proofs.Tries.{Trying, trying-start, trying-more, trying-found}
 
 -- the empty list
@@ -21,6 +21,9 @@ pub blocks-none : (p : ℕ) (codes : List ℕ) → length codes ≡ 0 → LeastB
 unfolding blocksMultiplier cells sum
 blocks-none p [] none = record { multiplier = refl; cells = refl }
 blocks-none p (a ∷ s) none = absurd (omega arith)
+
+pub none-blocked : {p k : ℕ} {codes blocks counts : List ℕ} → length codes ≡ 0 → Blocked p k codes blocks counts
+none-blocked none = record { blocks-are = λ i l. absurd (omega arith); loads-are = λ t l. absurd (omega arith) }
 
 -- k is to be tried
 abbrev pub TryingBlocks : ℕ → List ℕ → ℕ → Type 0

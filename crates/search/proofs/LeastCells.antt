@@ -6,13 +6,13 @@ use mathlib.Core.Bool.{Bool, true, false}
 use mathlib.Core.List.{List, [], _∷_}
 use mathlib.Core.Path.{_≡_, refl, sym, ap, _∙_}
 use borrow.Author.Tests.{eq-eqb, ne-eqb}
-use lib.ListN.{length, getD, set, replicate, length-replicate}
+use lib.ListN.{length, replicate, length-replicate}
 use Rattle.hash.specs.Hash.{hashOf, load, together}
 use Rattle.table.specs.TwoLevel.{tabulate, cellsMultiplier}
 use Rattle.table.proofs.Chosen.{cells-least}
 use Rattle.search.specs.Placed.{placed}
 use Rattle.search.specs.Searchable.{Searchable, mostCodes}
-use Rattle.search.specs.Cells.{square, separates, Unplaced, Placing, Tried, LeastCells}
+use Rattle.search.specs.Cells.{square, separates, placedBy, Unplaced, Placing, Tried, LeastCells}
 use Rattle.search.proofs.Tries.{Trying, trying-start, trying-more, trying-found}
 use Rattle.search.proofs.Places.{placing-all}
 
@@ -54,22 +54,19 @@ TryingCells p block q = Trying (separates p block) p (cellsMultiplier p block) q
 pub cells-start : {p : ℕ} {block : List ℕ} → Searchable p block → TryingCells p block 1
 cells-start {p} {block} codes = trying-start (cells-least (codes .prime) block (codes .valid))
 
--- a block of one code: it is in the one cell, by any multiplier
+-- one cell is the place of every code, by any multiplier
 one-cell : (p q a : ℕ) → hashOf p q 1 a ≡ 0
 unfolding hashOf
 one-cell p q a = omega arith
 
-pub cells-one :
-    {p : ℕ} (block : List ℕ) {cells : List ℕ} → Unplaced p block cells → length block ≡ 1
-    → LeastCells p block (set cells 0 (getD block 0 0)) 1
+-- a block of one code, or of none
+pub cells-one : {p a : ℕ} → Searchable p (a ∷ []) → (cellsMultiplier p (a ∷ []) ≡ 1) × (placedBy p 1 (a ∷ []) ≡ a ∷ [])
 unfolding cellsMultiplier together load tabulate placed
-cells-one [] u one = absurd (omega arith)
-cells-one (a ∷ b ∷ s) u one = absurd (omega arith)
-cells-one {p} (a ∷ []) {cells} u one =
-    record {
-      multiplier = trying-found (cells-start (u .codes)) refl;
-      filled = ap (λ (s : List ℕ). set s 0 a) (u .zeros) ∙ rw (one-cell p 1 a);
-    }
+cells-one {p} {a} codes = (sym (trying-found (cells-start codes) refl), rw (one-cell p 1 a))
+
+pub cells-none : {p : ℕ} → Searchable p [] → cellsMultiplier p [] ≡ 1
+unfolding cellsMultiplier together
+cells-none codes = sym (trying-found (cells-start codes) refl)
 
 -- what a trial of q answers: the least q, with the cells filled, or that the next one is to be tried in the same cells
 module _ {p q : ℕ} {block old new : List ℕ} {r : Bool} (h : TryingCells p block q) (tried : Tried p q block old new r) where

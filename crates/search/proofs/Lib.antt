@@ -8,3 +8,4 @@ pub mod Counts
 pub mod LeastBlocks
 pub mod Places
 pub mod LeastCells
+pub mod Twos

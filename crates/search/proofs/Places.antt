@@ -69,20 +69,28 @@ module _ {p q w : ℕ} {block cells : List ℕ} {i : ℕ} (h : Placing p q w blo
     at-cell : getD cells t 0 ≡ placed p q w (drop i block) t
     at-cell = ap (λ (s : List ℕ). getD s t 0) (h .held) ∙ tabulate-at (placed p q w (drop i block)) w t l
 
-    pub placing-more : getD cells t 0 ≡ 0 → Placing p q w block (i - 1) (set cells t (getD block (i - 1) 0))
-    unfolding together
-    placing-more free =
+    placing-next : together p q w (drop (i - 1) block) ≡ 0 → Placing p q w block (i - 1) (set cells t (getD block (i - 1) 0))
+    placing-next apart =
         record {
           left = omega (arith, h .left);
           sized = length-set cells t (getD block (i - 1) 0) ∙ h .sized;
-          apart =
-              rw (drop-before block i pos (h .left), ← own)
-              (omega (arith, placed-zero p q w (drop i block) t (codes-drop block i valid) (sym at-cell ∙ free), h .apart));
+          apart = apart;
           held =
               rw (drop-before block i pos (h .left))
               (ap (λ (s : List ℕ). set s t (getD block (i - 1) 0)) (h .held)
               ∙ put-in p q w (getD block (i - 1) 0) (drop i block) t own l);
         }
+
+    -- by a multiplier that is known to separate the codes
+    pub placing-put : together p q w block ≡ 0 → Placing p q w block (i - 1) (set cells t (getD block (i - 1) 0))
+    placing-put none = placing-next (omega (arith, together-drop p q w block (i - 1)))
+
+    pub placing-more : getD cells t 0 ≡ 0 → Placing p q w block (i - 1) (set cells t (getD block (i - 1) 0))
+    unfolding together
+    placing-more free =
+        placing-next
+        (rw (drop-before block i pos (h .left), ← own)
+        (omega (arith, placed-zero p q w (drop i block) t (codes-drop block i valid) (sym at-cell ∙ free), h .apart)))
 
     -- a cell that is taken: two codes are together
     pub placing-stop : (getD cells t 0 ≡ 0 → ⊥) → together p q w block ≡ 0 → ⊥

@@ -1,10 +1,9 @@
 // The least multiplier k of a list: each k is tried by counting the codes of its blocks.
 ghost use mathlib.Core.Path.{_≡_};
+ghost use lib.ListN.{length};
+ghost use Rattle.hash.specs.Contract.{Ready};
 ghost use Rattle.search.specs.Searchable.{Searchable};
-ghost use Rattle.search.specs.Blocks.{Countable, LeastBlocks, countOf};
-
-// The most codes of a list: a count for each block.
-const MOST: usize = 2048;
+ghost use Rattle.search.specs.Blocks.{Countable, Counted, Blocked, LeastBlocks};
 
 // The cells of a list under one multiplier, where they keep the bound.
 enum Count {
@@ -19,10 +18,19 @@ pub struct Multiplier {
 }
 
 // The cells under k, or that they are more than 3n - 2, said as soon as it shows. A block that goes from m codes to m + 1 goes from
-// m × m cells to 2m + 1 more. The codes are taken from the last, as the definitions count them: each one against those after it.
-fn count_cells(p: u32, k: u32, codes: &[u32], counts: &mut [u32]) -> Count
-    requires { ⌜ Countable p (now codes) (now counts) ⌝ }
-    ensures { λ r. ⌜ r ≡ countOf p k (now (codes .entry)) ⌝ }
+// m × m cells to 2m + 1 more. The codes are taken from the last, as the definitions count them: each one against those after it. The block
+// of each code and the load of each block are left to whoever needs them next.
+fn count_cells(
+    p: u32,
+    k: u32,
+    reciprocal: u64,
+    codes: &[u32],
+    blocks: &mut [u32],
+    counts: &mut [u32],
+) -> Count
+    requires { ⌜ Countable p (now codes) (now blocks) (now counts) ⌝ }
+    requires { ⌜ Ready p (length (now codes)) reciprocal ⌝ }
+    ensures { λ r. ⌜ Counted p k (now (codes .entry)) r (now (blocks .exit)) (now (counts .exit)) ⌝ }
 {
     crate::zeros::clear(counts);
     let n = codes.len() as u32;
@@ -31,31 +39,38 @@ fn count_cells(p: u32, k: u32, codes: &[u32], counts: &mut [u32]) -> Count
     let mut i = codes.len();
     while 0 < i {
         i -= 1;
-        let t = hash::hash(p, k, n, codes[i]) as usize;
-        let m = counts[t];
+        let t = hash::hash_by(p, k, n, reciprocal, codes[i]);
+        blocks[i] = t;
+        let m = counts[t as usize];
         c += 2 * m + 1;
         if most < c {
             return Count::TooMany;
         }
-        counts[t] = m + 1;
+        counts[t as usize] = m + 1;
     }
     Count::Fits(c)
 }
 
 // The least multiplier from 1 to p - 1 that keeps the cells at most 3n - 2, and the cells under it. A list of no code has k = 1 and no
 // cell. The search never gives up: some multiplier keeps the bound, so that the loop is left by its answer alone.
-pub fn blocks_multiplier(p: u32, codes: &[u32]) -> Multiplier
+pub fn blocks_multiplier(
+    p: u32,
+    codes: &[u32],
+    blocks: &mut [u32],
+    counts: &mut [u32],
+) -> Multiplier
     requires { ⌜ Searchable p (now codes) ⌝ }
+    requires { ⌜ (length (now blocks) ≡ length (now codes)) × (length (now counts) ≡ length (now codes)) ⌝ }
     ensures { λ r. ⌜ LeastBlocks p (now (codes .entry)) (r .k) (r .c) ⌝ }
+    ensures { λ r. ⌜ Blocked p (r .k) (now (codes .entry)) (now (blocks .exit)) (now (counts .exit)) ⌝ }
 {
-    let n = codes.len();
-    if n == 0 {
+    if codes.len() == 0 {
         return Multiplier { k: 1, c: 0 };
     }
-    let mut counts = [0u32; MOST];
+    let reciprocal = hash::reciprocal(p, codes.len() as u32);
     let mut k = 1;
     while k < p {
-        let count = count_cells(p, k, codes, &mut counts[..n]);
+        let count = count_cells(p, k, reciprocal, codes, blocks, counts);
         if let Count::Fits(c) = count {
             return Multiplier { k, c };
         }

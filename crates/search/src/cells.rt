@@ -1,18 +1,29 @@
 // The least multiplier q of a block: each q is tried by placing the block's codes in its own cells, which serve as marks.
-ghost use Prim.Native.Nat.{_<_};
+ghost use Prim.Native.Nat.{_<_, _≤_};
 ghost use mathlib.Core.Path.{_≡_};
-ghost use lib.ListN.{replicate};
+ghost use mathlib.Core.Bool.{cond};
+ghost use lib.Dec.{eqb};
+ghost use lib.ListN.{length, replicate};
+ghost use Rattle.hash.specs.Hash.{hashOf};
+ghost use Rattle.hash.specs.Contract.{Ready};
 ghost use Rattle.search.specs.Cells.{Unplaced, Placing, Tried, LeastCells};
 
+// 1 for true: a test that is added in place of a branch.
+pub fn one(test: bool) -> u32
+    ensures { λ r. ⌜ (r ≡ cond test 1 0) × (r ≤ 1) ⌝ }
+{
+    test as u32
+}
+
 // Takes the codes from `from` on out of their w cells again, which are then all 0.
-fn undo(p: u32, q: u32, w: u32, block: &[u32], from: usize, cells: &mut [u32])
-    requires { ⌜ (0 < p) × (0 < w) ⌝ }
+fn undo(p: u32, q: u32, w: u32, reciprocal: u64, block: &[u32], from: usize, cells: &mut [u32])
+    requires { ⌜ (0 < p) × Ready p w reciprocal ⌝ }
     requires { ⌜ Placing p q w (now block) from (now cells) ⌝ }
     ensures { λ _. ⌜ now (cells .exit) ≡ replicate w 0 ⌝ }
 {
     let mut i = from;
     while i < block.len() {
-        let t = hash::hash(p, q, w, block[i]) as usize;
+        let t = hash::hash_by(p, q, w, reciprocal, block[i]) as usize;
         cells[t] = 0;
         i += 1;
     }
@@ -20,17 +31,18 @@ fn undo(p: u32, q: u32, w: u32, block: &[u32], from: usize, cells: &mut [u32])
 
 // Places the codes of a block by q in its cells, which are all 0, and tells whether no two fall in one cell. Where two do, the cells
 // are all 0 again. The codes are taken from the last, so that a code is tested against those after it, as the definitions do.
-fn place_block(p: u32, q: u32, block: &[u32], cells: &mut [u32]) -> bool
+fn place_block(p: u32, q: u32, reciprocal: u64, block: &[u32], cells: &mut [u32]) -> bool
     requires { ⌜ Unplaced p (now block) (now cells) ⌝ }
+    requires { ⌜ Ready p (length (now cells)) reciprocal ⌝ }
     ensures { λ r. ⌜ Tried p q (now (block .entry)) (now (cells .entry)) (now (cells .exit)) r ⌝ }
 {
     let w = cells.len() as u32;
     let mut i = block.len();
     while 0 < i {
         let a = block[i - 1];
-        let t = hash::hash(p, q, w, a) as usize;
+        let t = hash::hash_by(p, q, w, reciprocal, a) as usize;
         if cells[t] != 0 {
-            undo(p, q, w, block, i, cells);
+            undo(p, q, w, reciprocal, block, i, cells);
             return false;
         }
         cells[t] = a;
@@ -39,23 +51,61 @@ fn place_block(p: u32, q: u32, block: &[u32], cells: &mut [u32]) -> bool
     true
 }
 
-// The least multiplier from 1 to p - 1 that puts the codes of a block in different cells, and the cells, which are all 0, filled by it.
-// A block of one code needs no search, and one of none has q = 1. The search never gives up: some multiplier separates the codes, so
-// that the loop is left by its answer alone.
-pub fn cells_multiplier(p: u32, block: &[u32], cells: &mut [u32]) -> u32
+// The least multiplier from 1 to p - 1 that puts the codes of a block in different cells, and the cells, which are all 0, filled by it. The
+// search never gives up: some multiplier separates the codes, so that the loop is left by its answer alone.
+fn cells_multiplier(p: u32, block: &[u32], cells: &mut [u32]) -> u32
     requires { ⌜ Unplaced p (now block) (now cells) ⌝ }
+    requires { ⌜ 0 < length (now block) ⌝ }
     ensures { λ r. ⌜ LeastCells p (now (block .entry)) (now (cells .exit)) r ⌝ }
 {
-    if block.len() == 1 {
-        cells[0] = block[0];
-        return 1;
-    }
+    let reciprocal = hash::reciprocal(p, cells.len() as u32);
     let mut q = 1;
     while q < p {
-        if place_block(p, q, block, cells) {
+        if place_block(p, q, reciprocal, block, cells) {
             return q;
         }
         q += 1;
     }
     q
+}
+
+// Whether q puts two codes in one of four cells.
+fn collide(p: u32, q: u32, a: u32, b: u32) -> bool
+    requires { ⌜ 0 < p ⌝ }
+    ensures { λ r. ⌜ r ≡ eqb (hashOf p q 4 a) (hashOf p q 4 b) ⌝ }
+{
+    hash::residue(p, q, a) % 4 == hash::residue(p, q, b) % 4
+}
+
+// The same for a block of two codes: nearly all have one of the first three multipliers, which is worked out without a branch.
+fn two_multiplier(p: u32, block: &[u32], cells: &mut [u32]) -> u32
+    requires { ⌜ Unplaced p (now block) (now cells) ⌝ }
+    requires { ⌜ length (now block) ≡ 2 ⌝ }
+    ensures { λ r. ⌜ LeastCells p (now (block .entry)) (now (cells .exit)) r ⌝ }
+{
+    let a = block[0];
+    let b = block[1];
+    let first = one(collide(p, 1, a, b));
+    let second = one(collide(p, 2, a, b));
+    let mut q = 1 + first * (1 + second);
+    while collide(p, q, a, b) {
+        q += 1;
+    }
+    let x = hash::residue(p, q, a) % 4;
+    let y = hash::residue(p, q, b) % 4;
+    cells[y as usize] = b;
+    cells[x as usize] = a;
+    q
+}
+
+// The least multiplier of a block of more than one code, and its cells, which are all 0, filled by it.
+pub fn block_multiplier(p: u32, block: &[u32], cells: &mut [u32]) -> u32
+    requires { ⌜ Unplaced p (now block) (now cells) ⌝ }
+    requires { ⌜ 1 < length (now block) ⌝ }
+    ensures { λ r. ⌜ LeastCells p (now (block .entry)) (now (cells .exit)) r ⌝ }
+{
+    if block.len() == 2 {
+        return two_multiplier(p, block, cells);
+    }
+    cells_multiplier(p, block, cells)
 }

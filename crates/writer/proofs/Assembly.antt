@@ -2,15 +2,17 @@
 -- group j is block j: its codes, and so its start, its multiplier and its cells.
 -- Assumes nothing.
 use Prim.Native.Nat.{ℕ, zero, suc, _+_, _*_, _-_, _<_, _≤_}
+use mathlib.Core.Bool.{false}
 use mathlib.Core.List.{List, [], _∷_, _++_, append-nil}
 use mathlib.Core.Path.{_≡_, refl, sym, ap, ap₂, _∙_}
 use native.Mathlib.Nat.{add-sub-cancel-left}
 use native.Mathlib.Numerals.{add-one}
 use native.Mathlib.Omega.{arith}
+use lib.Dec.{ltb}
 use lib.ListN.{length, getD, take, drop, set, replicate, length-replicate}
 use Rattle.hash.specs.Hash.{load, members, sum, cells}
 use Rattle.hash.proofs.Sums.{sum-ext}
-use Rattle.hash.proofs.Counting.{load-members, load-le}
+use Rattle.hash.proofs.Counting.{load-members, load-le, cells-is}
 use Rattle.hash.proofs.Members.{members-codes}
 use Rattle.table.specs.TwoLevel.{tabulate, cellsMultiplier, startOf, frontWith, heldIn}
 use Rattle.table.proofs.Tabulate.{tabulate-length, tabulate-ext}
@@ -19,10 +21,12 @@ use Rattle.search.specs.Searchable.{Searchable}
 use Rattle.search.specs.Placed.{placed}
 use Rattle.search.specs.Cells.{placedBy}
 use Rattle.search.proofs.BlockCells.{block-cells}
-use Rattle.writer.specs.Grouping.{before, Groupable, Grouped}
-use Rattle.writer.specs.Writing.{sizeAt, groupAt, startAt, multiplierAt, cellsAt, headed, started, Offsets, Unfilled, filledWith, Celled, withCodes}
+use Rattle.writer.specs.Grouping.{before, Grouped}
+use Rattle.writer.specs.Writing.{sizeAt, groupAt, startAt, multiplierAt, runs, singleAt, singles, multiplierBut, cellsBut, tableBut, headed, started, Offsets, Unfilled, Groups, Celled, withCodes}
 use Rattle.writer.proofs.Groups.{before-next, before-le}
 use Rattle.writer.proofs.Parts.{part-is, part-back, zeros-split}
+use Rattle.writer.proofs.Runs.{runs-ext}
+use Rattle.writer.proofs.Pending.{single-multiplier, single-cells}
 
 pub header-set : (words : List ℕ) (m n c k : ℕ) → words ≡ replicate m 0 → 3 ≤ m → set (set (set words 0 n) 1 c) 2 k ≡ headed n c k m
 header-set words m n c k zeros l =
@@ -54,9 +58,6 @@ module _ (n c k size : ℕ) (at words : List ℕ) (room : 3 + n ≤ size) (is : 
       part-back words (n ∷ c ∷ k ∷ []) (replicate n 0) (replicate (size - (3 + n)) 0) headed-parts 3 (3 + n - 3) refl count-is new
       ∙ ap (λ (s : List ℕ). (n ∷ c ∷ k ∷ []) ++ (s ++ replicate (size - (3 + n)) 0)) (new-is ∙ ap (tabulate (startAt at)) starts-count)
 
-pub celled-groupable : {p k c : ℕ} {codes : List ℕ} → Celled p k c codes → Groupable p codes
-celled-groupable d = record { some-prime = omega (arith, d .searchable .prime .two-le); few = d .searchable .few }
-
 module _ {p k : ℕ} {codes at grouped : List ℕ} (g : Grouped p k codes at grouped) where
   -- ---- group j is block j
 
@@ -85,8 +86,11 @@ module _ {p k : ℕ} {codes at grouped : List ℕ} (g : Grouped p k codes at gro
   multiplier-is : (j : ℕ) → j < n → multiplierAt p at grouped j ≡ blockQ p k codes j
   multiplier-is j l = ap (cellsMultiplier p) (group-is j l)
 
-  cells-are : (j : ℕ) → j ≤ n → cellsAt p at grouped j ≡ tabulate (heldIn p (frontWith p k codes) codes codes) (startOf p k codes j)
-  unfolding cellsAt startOf sum tabulate
+  -- the cells of all blocks before block j, none of them pending
+  cells-are :
+      (j : ℕ) → j ≤ n
+      → runs (cellsBut p at grouped (λ i. false)) j ≡ tabulate (heldIn p (frontWith p k codes) codes codes) (startOf p k codes j)
+  unfolding runs startOf sum tabulate
   cells-are zero l = refl
   cells-are (suc j) l =
       let block : List ℕ = members p k n j codes in
@@ -121,8 +125,34 @@ module _ {p k c : ℕ} {codes at grouped : List ℕ} (d : Celled p k c codes) (g
             );
       })
 
+  pub grouped-groups : length codes < length at → c < 4294967296 → length codes ≤ length grouped → Groups p (length codes) at grouped
+  grouped-groups room fits grouped-room =
+      record {
+        offsets = grouped-offsets room fits;
+        within = λ j l. omega (arith, next-is g j l, before-le p k codes (suc j) l);
+        codes = group-searchable;
+      }
+
+  -- the table whose blocks are all written
+  pub none-pending :
+      {words : List ℕ} → words ≡ tableBut p (length codes) c k at grouped (λ j. false) → words ≡ withCodes p k c codes
+  none-pending {words} is =
+      let n : ℕ = length codes in
+      let C : ℕ → List ℕ = tabulate (heldIn p (frontWith p k codes) codes codes) in
+      let starts : tabulate (startAt at) n ≡ tabulate (startOf p k codes) n =
+      tabulate-ext (startAt at) (startOf p k codes) n (λ j l. start-is g j (omega arith)) in
+      let multipliers : tabulate (multiplierAt p at grouped) n ≡ tabulate (blockQ p k codes) n =
+      tabulate-ext (multiplierAt p at grouped) (blockQ p k codes) n (multiplier-is g) in
+      let held : runs (cellsBut p at grouped (λ j. false)) n ≡ C c =
+      cells-are g n (omega arith) ∙ ap C (start-last p k codes ∙ sym (d .cells-are)) in
+      is
+      ∙ rw (starts, multipliers, held, d .cells-are)
+      (sym (front-parts p k codes (C (cells p k codes) ++ replicate (cells p k codes) 0)))
+
+  -- ---- the part after the starts
+
   module _
-      (words : List ℕ) (room : length codes < length at) (fits : c < 4294967296) (grouped-room : length codes ≤ length grouped)
+      (words : List ℕ) (room : length codes < length at) (fits : c < 4294967296) (spare : (length codes < length grouped) × (getD grouped (length codes) 0 ≡ 0))
       (size : ℕ) (size-is : size ≡ 3 + 2 * length codes + 2 * c) (is : words ≡ started (length codes) c k at size) (long : length words ≡ size)
     where
       abbrev m : ℕ
@@ -150,30 +180,33 @@ module _ {p k c : ℕ} {codes at grouped : List ℕ} (d : Celled p k c codes) (g
       rest-count : length (take (length words - m) (drop m words)) ≡ size - m
       rest-count = ap length rest-is ∙ length-replicate {A = ℕ} (size - m) 0
 
-      pub rest-unfilled : Unfilled p (length codes) at grouped (take (length words - m) (drop m words))
+      -- there is a cell for each code
+      some-cells : (j : ℕ) → j < length codes → 0 < c
+      some-cells j l = omega (arith, d .cells-are, cells-is p k codes (omega arith))
+
+      pub rest-unfilled : Unfilled (length codes) at grouped (take (length words - m) (drop m words))
       rest-unfilled =
           record {
             offsets = grouped-offsets room fits;
             within = λ j l. omega (arith, next-is g j l, before-le p k codes (suc j) l);
-            groups = group-searchable;
+            spare = spare;
             enough = omega (arith, rest-count, all-is g, d .cells-are);
+            more = λ j l. omega (arith, rest-count, all-is g, d .cells-are, some-cells j l);
             zeros = rest-is ∙ ap (λ (i : ℕ). replicate {A = ℕ} i 0) (sym rest-count);
           }
 
       pub rest-back :
-          (new : List ℕ) → new ≡ filledWith p (length codes) at grouped (length (take (length words - m) (drop m words)))
-          → take m words ++ (new ++ drop (length words - m) (drop m words)) ≡ withCodes p k c codes
+          (new : List ℕ) → new ≡ singles (length codes) at grouped (length (take (length words - m) (drop m words)))
+          → take m words ++ (new ++ drop (length words - m) (drop m words))
+          ≡ tableBut p (length codes) c k at grouped (λ j. ltb 1 (sizeAt at j))
       rest-back new new-is =
           let n : ℕ = length codes in
-          let C : ℕ → List ℕ = tabulate (heldIn p (frontWith p k codes) codes codes) in
-          let starts : tabulate (startAt at) n ≡ tabulate (startOf p k codes) n =
-          tabulate-ext (startAt at) (startOf p k codes) n (λ j l. start-is g j (omega arith)) in
-          let multipliers : tabulate (multiplierAt p at grouped) n ≡ tabulate (blockQ p k codes) n =
-          tabulate-ext (multiplierAt p at grouped) (blockQ p k codes) n (multiplier-is g) in
-          let held : cellsAt p at grouped n ≡ C c = cells-are g n (omega arith) ∙ ap C (start-last p k codes ∙ sym (d .cells-are)) in
+          let groups : Groups p n at grouped = grouped-groups room fits (omega arith) in
+          let ones : tabulate (λ j. 1) n ≡ tabulate (multiplierBut p at grouped (λ j. ltb 1 (sizeAt at j))) n =
+          tabulate-ext (λ j. 1) (multiplierBut p at grouped (λ j. ltb 1 (sizeAt at j))) n (single-multiplier groups) in
+          let held : runs (singleAt at grouped) n ≡ runs (cellsBut p at grouped (λ j. ltb 1 (sizeAt at j))) n =
+          runs-ext (singleAt at grouped) (cellsBut p at grouped (λ j. ltb 1 (sizeAt at j))) n (single-cells groups) in
           let zeros : length (take (length words - m) (drop m words)) - (n + startAt at n) ≡ c =
           omega (arith, rest-count, all-is g, d .cells-are) in
           part-back words pre rest [] started-parts m (length words - m) pre-length rest-length new
-          ∙ ap (λ (s : List ℕ). pre ++ s) (append-nil new ∙ new-is)
-          ∙ rw (starts, multipliers, held, zeros, d .cells-are)
-          (sym (front-parts p k codes (C (cells p k codes) ++ replicate (cells p k codes) 0)))
+          ∙ ap (λ (s : List ℕ). pre ++ s) (append-nil new ∙ new-is ∙ rw (ones, held, zeros) refl)

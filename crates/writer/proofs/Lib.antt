@@ -1,6 +1,10 @@
 -- What the proofs of the functions cite, by topic.
 mod Groups
 mod Parts
-mod Filling
-mod Storing
+mod Runs
+mod Singles
+mod Choosing
+mod Listing
+mod Pending
 mod Assembly
+mod Storing

@@ -1,47 +1,77 @@
--- `builder::build::build_accepted` meets its contract: c is that of the least k, and at most 3n, so that the total is a word.
+-- `builder::build::build_accepted` meets its contract: each room has a place for each code, and one more where that is needed.
 -- Assumes nothing.
 use mathlib.Core.Path.{sym}
+use native.Mathlib.Omega.{arith}
 use lib.Seq.{length-take-le}
 use borrow.Author.Needs.{needs}
-use Rattle.builder.proofs.Outcomes.{total-fits, too-short, accepted-writable, accepted-done}
 use Rattle.builder.proofs.build.build_accepted.Statement.{statement}
 use Rattle.builder.proofs.build.build_accepted.Tie as tie
 
-cast-given : tie.Need-cast-given
-cast-given c = record { fits = total-fits (c .before .before .before .before .pre .0) (c .blocks-multiplier .ensures) }
+build-with-requires : tie.Need-build-with-requires
+build-with-requires c κs =
+    let test = c .before .before .before .before .before .before in
+    let start = test .before .before .before .before in (
+      start .pre .0,
+      (
+        (start .pre .1, length-take-le _ _ (omega arith)),
+        record { at-room = omega arith; grouped-room = omega arith; listed-room = (omega arith, omega arith) },
+      ),
+    )
 
-returns : tie.Need-returns
-returns c =
-    too-short (c .before .before .before .before .before .pre .0) (c .before .blocks-multiplier .ensures) _ _ (c .if1 .taken)
+build-with-requires-2 : tie.Need-build-with-requires-2
+build-with-requires-2 c κs =
+    let test = c .before .before .before .before .before .before in
+    let start = test .before .before .before .before .before in (
+      start .pre .0,
+      (
+        (start .pre .1, length-take-le _ _ (omega arith)),
+        record { at-room = omega arith; grouped-room = omega arith; listed-room = (omega arith, omega arith) },
+      ),
+    )
 
-slice-aggregate-write-table : tie.Need-slice-aggregate-write-table
-slice-aggregate-write-table c = sym (length-take-le _ _ (c .before .if1 .left))
-
-write-table-requires : tie.Need-write-table-requires
-write-table-requires c κs =
-    let start = c .before .before .before .before .before .before in
-    (accepted-writable (start .pre .0) (c .before .before .blocks-multiplier .ensures) _ (start .pre .1), length-take-le _ _ (c .before .if1 .left))
-
-returns-2 : tie.Need-returns-2
-returns-2 c =
-    let found = c .before .before .before .before .before in
-    accepted-done (found .before .before .before .before .pre .0) (found .blocks-multiplier .ensures) _ _ _ (c .before .before .before .before .if1 .left)
-    (c .before .before .write-table .ensures)
+build-with-requires-3 : tie.Need-build-with-requires-3
+build-with-requires-3 c κs =
+    let test = c .before .before .before .before .before .before in
+    let start = test .before .before .before .before .before in (
+      start .pre .0,
+      (
+        (start .pre .1, length-take-le _ _ (omega (arith, start .pre .0 .few))),
+        record {
+          at-room = omega (arith, start .pre .0 .few);
+          grouped-room = omega (arith, start .pre .0 .few);
+          listed-room = (omega (arith, start .pre .0 .few), omega (arith, start .pre .0 .few));
+        },
+      ),
+    )
 
 pub build-accepted-spec : {M : Type 1} → statement M
 build-accepted-spec =
     tie.close
     (tie.spec
-    (λ c κs. search needs)
+    (λ c. omega arith)
+    (λ c. sym (length-take-le _ _ (omega arith)))
     (λ c. search needs)
     (λ c. search needs)
     (λ c. search needs)
     (λ c. search needs)
+    build-with-requires
     (λ c. search needs)
-    cast-given
-    returns
+    (λ c. c .before .before .before .before .before .before .before .build-with .ensures)
+    (λ c. omega arith)
+    (λ c. sym (length-take-le _ _ (omega arith)))
     (λ c. search needs)
-    slice-aggregate-write-table
-    write-table-requires
     (λ c. search needs)
-    returns-2)
+    (λ c. search needs)
+    (λ c. search needs)
+    build-with-requires-2
+    (λ c. search needs)
+    (λ c. c .before .before .before .before .before .before .before .build-with2 .ensures)
+    (λ c. omega (arith, c .before .before .before .before .before .pre .0 .few))
+    (λ c. sym (length-take-le _ _ (omega (arith, c .before .before .before .before .before .before .pre .0 .few))))
+    (λ c. search needs)
+    (λ c. search needs)
+    (λ c. search needs)
+    (λ c. search needs)
+    build-with-requires-3
+    (λ c. search needs)
+    (λ c. c .before .before .before .before .before .before .before .build-with3 .ensures))

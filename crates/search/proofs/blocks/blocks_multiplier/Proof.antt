@@ -1,55 +1,50 @@
 -- `search::blocks::blocks_multiplier` meets its contract. The loop's invariant: no multiplier before k keeps the bound. The measure is p
 -- less k. Assumes nothing.
 use Prim.Native.Nat.{_-_}
-use mathlib.Core.Path.{_≡_, refl, sym, _∙_}
+use mathlib.Core.Path.{_≡_, refl, _∙_}
 use native.Mathlib.Omega.{arith}
 use borrow.Author.Needs.{needs}
-use lib.ListN.{length, take}
-use lib.Seq.{length-take-le, length-front}
-use Rattle.search.specs.Searchable.{mostCodes}
-use Rattle.search.proofs.LeastBlocks.{TryingBlocks, blocks-none, blocks-start, blocks-found, blocks-more}
+use lib.ListN.{length}
+use Rattle.search.proofs.LeastBlocks.{TryingBlocks, blocks-none, none-blocked, blocks-start, blocks-found, blocks-more}
 use Rattle.search.proofs.blocks.blocks_multiplier.Statement.{statement}
 use Rattle.search.proofs.blocks.blocks_multiplier.Tie as tie
 
 abbrev Inv-loop : tie.InvT-loop
-Inv-loop p codes n counts₀ k₀ counts k = TryingBlocks p codes k × (length counts ≡ mostCodes)
+Inv-loop p codes blocks₀ counts₀ reciprocal k₀ blocks counts k =
+    TryingBlocks p codes k × ((length blocks ≡ length codes) × (length counts ≡ length codes))
 
 abbrev μ-loop : tie.MeasureT-loop
-μ-loop p codes n counts₀ k₀ counts k = p - k
+μ-loop p codes blocks₀ counts₀ reciprocal k₀ blocks counts k = p - k
 
 returns : tie.Need-returns Inv-loop μ-loop
-returns c = let start = c .before .before in blocks-none (start .args .p) (start .args .codes .now) (c .if1 .taken)
+returns c =
+    let start = c .before .before .before .before in
+    (blocks-none (start .args .p) (start .args .codes .now) (c .if1 .taken), none-blocked (c .if1 .taken))
 
 loop-holds : tie.Need-loop-holds Inv-loop μ-loop
-loop-holds c = (blocks-start (c .before .before .pre) (omega arith), refl)
-
--- a count for each of n blocks is lent
-lent :
-    (c : tie.In-loop Inv-loop μ-loop)
-    → length (take (length (c .before .before .before .before .args .codes .now)) (c .before .loop .counts))
-    ≡ length (c .before .before .before .before .args .codes .now)
-lent c =
-    length-take-le (length (c .before .before .before .before .args .codes .now)) (c .before .loop .counts) (omega arith)
+loop-holds c = let start = c .before .before .before .before .before in (blocks-start (start .pre .0) (omega arith), start .pre .1)
 
 count-cells-requires : tie.Need-count-cells-requires Inv-loop μ-loop
 count-cells-requires c κs =
-    record { divides = omega arith; some = omega arith; few = omega arith; sized = lent (c .before) }
+    let h = c .before .before .before in
+    (record { divides = omega arith; some = omega arith; few = omega arith; sized = h .loop .inv .1 }, search needs)
 
 returns-2 : tie.Need-returns-2 Inv-loop μ-loop
 returns-2 c =
-    let called = c .before .before .before .before in
-    let h = called .before .before .before in
-    blocks-found (h .before .before .before .args .codes .now) (h .loop .inv .0) (called .count-cells .ensures)
-    (c .before .count .given .1)
+    let called = c .before .before .before .before .before .before .before in
+    let h = called .before .before .before .before in
+    let codes = h .before .before .before .before .before .before .args .codes .now in (
+      blocks-found codes (h .loop .inv .0) (called .count-cells .ensures .answers) (c .before .count .given .1),
+      called .count-cells .ensures .leaves _ (c .before .count .given .1),
+    )
 
 loop-again : tie.Need-loop-again Inv-loop μ-loop
 loop-again c =
-    let called = c .before .before .before in
-    let h = called .before .before .before in
-    let codes = h .before .before .before .args .codes .now in (
-      blocks-more codes (h .loop .inv .0) (called .count-cells .ensures) (c .enum-told .given .1),
-      length-front (h .loop .counts) (called .count-cells .last .1 .1 .1 .0) (length codes) (called .count-cells .kept .1 .1 .1 .0)
-          ∙ h .loop .inv .1,
+    let called = c .before .before .before .before .before .before in
+    let h = called .before .before .before .before in
+    let codes = h .before .before .before .before .before .before .args .codes .now in (
+      blocks-more codes (h .loop .inv .0) (called .count-cells .ensures .answers) (c .enum-told .given .1),
+      search needs,
     )
 
 pub blocks-multiplier-spec : {M : Type 1} → statement M
@@ -59,14 +54,18 @@ blocks-multiplier-spec =
     Inv-loop
     μ-loop
     returns
-    loop-holds
     (λ c. omega arith)
-    (λ c. sym (lent (c .before)))
+    (λ c κs. omega arith)
+    loop-holds
     count-cells-requires
+    (λ c. search needs)
+    (λ c. search needs)
     (λ c. search needs)
     returns-2
     (λ c. search needs)
     (λ c. omega arith)
     (λ c. omega arith)
     loop-again
+    (λ c. absurd (omega arith))
+    (λ c. absurd (omega arith))
     (λ c. absurd (omega arith)))

@@ -1,54 +1,62 @@
 -- `search::blocks::count_cells` meets its contract. The loop's invariant is `Counting`: the codes from i on are counted. The measure is i.
 -- Assumes nothing.
 use Prim.Native.Nat.{_≤_}
-use mathlib.Core.Path.{sym}
+use mathlib.Core.Path.{_≡_, refl, sym}
 use native.Mathlib.Omega.{arith}
 use borrow.Author.Needs.{needs}
-use lib.ListN.{length, getD}
-use Rattle.search.proofs.Counts.{Counting, counting-start, counting-load, counting-more, counting-over, counting-all}
+use lib.ListN.{length, getD, length-set}
+use Rattle.search.proofs.Counts.{Counting, counting-start, counting-load, counting-more, counting-over, counting-all, counting-blocked, over-leaves}
 use Rattle.search.proofs.blocks.count_cells.Statement.{statement}
 use Rattle.search.proofs.blocks.count_cells.Tie as tie
 
 abbrev Inv-loop : tie.InvT-loop
-Inv-loop p k codes counts₀ n most c₀ i₀ counts c i = Counting p k codes i counts c
+Inv-loop p k reciprocal codes blocks₀ counts₀ n most c₀ i₀ blocks counts c i =
+    Counting p k codes i blocks counts c × ((length blocks ≡ length blocks₀) × (length counts ≡ length counts₀))
 
 abbrev μ-loop : tie.MeasureT-loop
-μ-loop p k codes counts₀ n most c₀ i₀ counts c i = i
+μ-loop p k reciprocal codes blocks₀ counts₀ n most c₀ i₀ blocks counts c i = i
 
 loop-holds : tie.Need-loop-holds Inv-loop μ-loop
 loop-holds c =
     let called = c .before .before in
-    let start = called .before .before .before .before in
-    counting-start (start .pre .some) (start .pre .sized) (called .clear .ensures)
+    let start = called .before .before .before .before .before in
+    (counting-start (start .pre .0 .some) (start .pre .0 .sized .0) (start .pre .0 .sized .1) (called .clear .ensures), (refl, refl))
 
 -- the count of the code's block, as it is read
 load :
-    (c : tie.After-slice-known3 Inv-loop μ-loop)
-    → getD (c .before .before .before .before .loop .counts) (c .before .hash .result) 0
-    ≤ length (c .before .before .before .before .before .before .before .before .before .before .before .args .codes .now)
+    (c : tie.After-slice-known4 Inv-loop μ-loop)
+    → getD (c .before .before .before .before .loop .counts) (c .before .hash-by .result) 0
+    ≤ length (c .before .before .before .before .before .before .before .before .before .before .before .before .args .codes .now)
 load c =
     let called = c .before in
     let test = called .before .before in
-    counting-load (test .before .loop .inv) (test .loop-test .taken) (called .hash .result) (called .hash .ensures .value)
-    (called .hash .ensures .range)
+    counting-load (test .before .loop .inv .0) (test .loop-test .taken) (called .hash-by .result) (called .hash-by .ensures .value)
+    (called .hash-by .ensures .range)
 
 returns : tie.Need-returns Inv-loop μ-loop
 returns c =
     let called = c .before .before in
     let test = called .before .before in
-    sym
-    (counting-over (test .before .loop .inv) (test .loop-test .taken) (called .hash .result) (called .hash .ensures .value)
-    (called .hash .ensures .range) (omega arith))
+    over-leaves
+    (counting-over (test .before .loop .inv .0) (test .loop-test .taken) (called .hash-by .result) (called .hash-by .ensures .value)
+    (called .hash-by .ensures .range) (omega arith))
 
 loop-again : tie.Need-loop-again Inv-loop μ-loop
 loop-again c =
     let called = c .before .before in
-    let test = called .before .before in
-    counting-more (test .before .loop .inv) (test .loop-test .taken) (called .hash .result) (called .hash .ensures .value)
-    (called .hash .ensures .range) (omega arith)
+    let test = called .before .before in (
+      counting-more (test .before .loop .inv .0) (test .loop-test .taken) (called .hash-by .result) (called .hash-by .ensures .value)
+          (called .hash-by .ensures .range) (omega arith),
+      (simp length-set (test .before .loop .inv .1 .0), simp length-set (test .before .loop .inv .1 .1)),
+    )
 
 returns-2 : tie.Need-returns-2 Inv-loop μ-loop
-returns-2 c = sym (counting-all (omega arith) (c .before .loop .inv) (c .loop-test .left))
+returns-2 c =
+    let h = c .before .loop .inv .0 in
+    record {
+      answers = sym (counting-all h (c .loop-test .left) (omega arith));
+      leaves = λ cells fits. counting-blocked h (c .loop-test .left);
+    }
 
 pub count-cells-spec : {M : Type 1} → statement M
 count-cells-spec =
@@ -64,19 +72,24 @@ count-cells-spec =
     (λ c. omega arith)
     (λ c. search needs)
     (λ c. omega arith)
-    (λ c κs. omega arith)
-    (λ c. search needs)
+    (λ c κs. (omega arith, search needs))
     (λ c. search needs)
     (λ c. omega arith)
+    (λ c. search needs)
+    (λ c. search needs)
+    (λ c. search needs)
     (λ c. omega (arith, load c))
     (λ c. omega (arith, load c))
     (λ c. omega (arith, load c))
+    (λ c. search needs)
     (λ c. search needs)
     returns
-    (λ c. omega arith)
+    (λ c. omega (arith, load (c .before)))
+    (λ c. search needs)
+    (λ c. search needs)
     (λ c. search needs)
     (λ c. omega arith)
-    (λ c. omega arith)
     loop-again
+    (λ c. search needs)
     (λ c. search needs)
     returns-2)

@@ -4,18 +4,15 @@ use native.Mathlib.Omega.{arith}
 use borrow.Author.Needs.{needs}
 use Rattle.search.specs.Cells.{Placing}
 use Rattle.search.proofs.Places.{placing-start, placing-more, placing-stop}
-use Rattle.search.proofs.LeastCells.{unplaced-zeros, unplaced-some, unplaced-few, tried-all, tried-stop}
+use Rattle.search.proofs.LeastCells.{unplaced-zeros, unplaced-few, tried-all, tried-stop}
 use Rattle.search.proofs.cells.place_block.Statement.{statement}
 use Rattle.search.proofs.cells.place_block.Tie as tie
 
 abbrev Inv-loop : tie.InvT-loop
-Inv-loop p q block cells₀ w i₀ cells i = Placing p q w block i cells
+Inv-loop p q reciprocal block cells₀ w i₀ cells i = Placing p q w block i cells
 
 abbrev μ-loop : tie.MeasureT-loop
-μ-loop p q block cells₀ w i₀ cells i = i
-
-hash-requires : tie.Need-hash-requires Inv-loop μ-loop
-hash-requires c κs = (omega arith, unplaced-some (c .before .before .before .before .before .pre) (omega arith))
+μ-loop p q reciprocal block cells₀ w i₀ cells i = i
 
 returns : tie.Need-returns Inv-loop μ-loop
 returns c =
@@ -25,9 +22,9 @@ returns c =
     let test = called .before .before in
     let h = test .before in
     let start = h .before .before .before in
-    tried-stop (start .pre)
-    (placing-stop (h .loop .inv) (start .pre .codes .valid) (test .loop-test .taken) (called .hash .result)
-    (called .hash .ensures .value) (called .hash .ensures .range) (found .if1 .taken))
+    tried-stop (start .pre .0)
+    (placing-stop (h .loop .inv) (start .pre .0 .codes .valid) (test .loop-test .taken) (called .hash-by .result)
+    (called .hash-by .ensures .value) (called .hash-by .ensures .range) (found .if1 .taken))
     (undone .undo .ensures)
 
 loop-again : tie.Need-loop-again Inv-loop μ-loop
@@ -35,11 +32,11 @@ loop-again c =
     let called = c .before .before in
     let test = called .before .before in
     let h = test .before in
-    placing-more (h .loop .inv) (h .before .before .before .pre .codes .valid) (test .loop-test .taken) (called .hash .result)
-    (called .hash .ensures .value) (called .hash .ensures .range) (c .if1 .left)
+    placing-more (h .loop .inv) (h .before .before .before .pre .0 .codes .valid) (test .loop-test .taken) (called .hash-by .result)
+    (called .hash-by .ensures .value) (called .hash-by .ensures .range) (c .if1 .left)
 
 returns-2 : tie.Need-returns-2 Inv-loop μ-loop
-returns-2 c = let h = c .before in tried-all (h .before .before .before .pre) (h .loop .inv) (c .loop-test .left)
+returns-2 c = let h = c .before in tried-all (h .before .before .before .pre .0) (h .loop .inv) (c .loop-test .left)
 
 pub place-block-spec : {M : Type 1} → statement M
 place-block-spec =
@@ -47,12 +44,12 @@ place-block-spec =
     (tie.spec
     Inv-loop
     μ-loop
-    (λ c. omega (arith, unplaced-few (c .before .before .pre)))
-    (λ c. placing-start (unplaced-zeros (c .before .before .pre)))
+    (λ c. omega (arith, unplaced-few (c .before .before .pre .0)))
+    (λ c. placing-start (unplaced-zeros (c .before .before .pre .0)))
     (λ c. omega arith)
     (λ c. search needs)
     (λ c. omega arith)
-    hash-requires
+    (λ c κs. (omega arith, search needs))
     (λ c. search needs)
     (λ c. search needs)
     (λ c. omega arith)

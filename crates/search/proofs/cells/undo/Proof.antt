@@ -10,16 +10,16 @@ use Rattle.search.proofs.cells.undo.Statement.{statement}
 use Rattle.search.proofs.cells.undo.Tie as tie
 
 abbrev Inv-loop : tie.InvT-loop
-Inv-loop p q w block from cells₀ i₀ cells i = Placing p q w block i cells
+Inv-loop p q w reciprocal block from cells₀ i₀ cells i = Placing p q w block i cells
 
 abbrev μ-loop : tie.MeasureT-loop
-μ-loop p q w block from cells₀ i₀ cells i = length block - i
+μ-loop p q w reciprocal block from cells₀ i₀ cells i = length block - i
 
 loop-again : tie.Need-loop-again Inv-loop μ-loop
 loop-again c =
     let test = c .before .before in
-    placing-less (test .before .loop .inv) (test .loop-test .taken) (c .hash .result) (c .hash .ensures .value)
-    (c .hash .ensures .range)
+    placing-less (test .before .loop .inv) (test .loop-test .taken) (c .hash-by .result) (c .hash-by .ensures .value)
+    (c .hash-by .ensures .range)
 
 returns : tie.Need-returns Inv-loop μ-loop
 returns c = placing-none (c .before .loop .inv) (c .loop-test .left)

@@ -1,15 +1,15 @@
 -- `writer::write::write_block` meets its contract: the part that is lent is 0, and comes back with the cells.
 -- Assumes nothing.
 use borrow.Author.Needs.{needs}
-use Rattle.writer.proofs.Filling.{vacant-part, vacant-written}
+use Rattle.writer.proofs.Pending.{vacant-part, vacant-written}
 use Rattle.writer.proofs.write.write_block.Statement.{statement}
 use Rattle.writer.proofs.write.write_block.Tie as tie
 
-cells-multiplier-requires : tie.Need-cells-multiplier-requires
-cells-multiplier-requires c κs = vacant-part (c .before .before .before .pre)
+block-multiplier-requires : tie.Need-block-multiplier-requires
+block-multiplier-requires c κs = let start = c .before .before .before in (vacant-part (start .pre), start .pre .some)
 
 returns : tie.Need-returns
-returns c = vacant-written (c .before .before .before .before .before .before .pre) _ _ (c .before .before .cells-multiplier .ensures)
+returns c = vacant-written (c .before .before .before .before .before .before .pre) _ _ (c .before .before .block-multiplier .ensures)
 
 pub write-block-spec : {M : Type 1} → statement M
 write-block-spec =
@@ -21,7 +21,7 @@ write-block-spec =
     (λ c. search needs)
     (λ c. search needs)
     (λ c. search needs)
-    cells-multiplier-requires
+    block-multiplier-requires
     (λ c. search needs)
     (λ c. search needs)
     (λ c. search needs)

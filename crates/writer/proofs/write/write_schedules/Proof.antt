@@ -10,19 +10,19 @@ use Rattle.writer.proofs.write.write_schedules.Statement.{statement}
 use Rattle.writer.proofs.write.write_schedules.Tie as tie
 
 abbrev Inv-loop : tie.InvT-loop
-Inv-loop p k c codes schedules words₀ first i₀ words i = Storing p k c codes schedules i words × (length words ≡ length words₀)
+Inv-loop p k c codes schedules blocks words₀ first i₀ words i = Storing p k c codes schedules i words × (length words ≡ length words₀)
 
 abbrev μ-loop : tie.MeasureT-loop
-μ-loop p k c codes schedules words₀ first i₀ words i = length codes - i
+μ-loop p k c codes schedules blocks words₀ first i₀ words i = length codes - i
 
 loop-holds : tie.Need-loop-holds Inv-loop μ-loop
-loop-holds c = let args = c .before .before .before .pre in (storing-start (args .0) (args .1), refl)
+loop-holds c = let args = c .before .before .before .before .pre in (storing-start (args .0) (args .1 .1), refl)
 
 cell-in-requires : tie.Need-cell-in-requires Inv-loop μ-loop
 cell-in-requires c κs =
     let now = c .before .before .before .before .loop in
     let own = c .before .before .block-of .ensures in
-    let list = c .before .before .before .before .before .before .before .before .pre .0 in (
+    let list = c .before .before .before .before .before .before .before .before .before .pre .0 in (
       search needs,
       (
         storing-block list (now .inv .0) (search needs) _ (own .value) (own .range),
@@ -35,7 +35,7 @@ room : tie.Need-slice-write-words Inv-loop μ-loop
 room c =
     let now = c .before .before .before .before .before .before .loop in
     let own = c .before .before .before .before .block-of .ensures in
-    let list = c .before .before .before .before .before .before .before .before .before .before .pre .0 in
+    let list = c .before .before .before .before .before .before .before .before .before .before .before .pre .0 in
     storing-room list (now .inv .0) (search needs) _ (own .value) (own .range) _ (c .before .cell-in .ensures .value)
 
 add-words : tie.Need-add-words Inv-loop μ-loop
@@ -48,13 +48,13 @@ loop-again : tie.Need-loop-again Inv-loop μ-loop
 loop-again c =
     let now = c .before .before .before .before .before .before .loop in
     let own = c .before .before .before .before .block-of .ensures in
-    let list = c .before .before .before .before .before .before .before .before .before .before .pre .0 in (
+    let list = c .before .before .before .before .before .before .before .before .before .before .before .pre .0 in (
       storing-more list (now .inv .0) (search needs) _ (own .value) (own .range) _ (c .before .cell-in .ensures .value),
       simp length-set (now .inv .1),
     )
 
 returns : tie.Need-returns Inv-loop μ-loop
-returns c = storing-all (c .before .before .before .before .before .pre .0) (c .before .loop .inv .0) (search needs)
+returns c = storing-all (c .before .before .before .before .before .before .pre .0) (c .before .loop .inv .0) (search needs)
 
 pub write-schedules-spec : {M : Type 1} → statement M
 write-schedules-spec =
