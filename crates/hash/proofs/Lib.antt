@@ -1,5 +1,6 @@
 -- In reading order: numbers, sums, and what they give of the hash.
 pub mod Words
+pub mod Reciprocals
 pub mod Primes
 pub mod Indicators
 pub mod Sums

@@ -1,6 +1,6 @@
 -- Numbers that fit words: products and remainders, each one law for all widths.
-use Prim.Native.Nat.{ℕ, _+_, _*_, _%_, _^_, _<_}
-use native.Mathlib.Nat.{le-of-lt, lt-of-le-of-lt, lt-trans, mod-lt, mul-le-mul-left, mul-lt-mul-of-pos-right}
+use Prim.Native.Nat.{ℕ, _+_, _*_, _%_, _^_, _<_, _≤_}
+use native.Mathlib.Nat.{le-of-lt, le-trans, lt-of-le-of-lt, lt-trans, mod-lt, mul-le-mul-left, mul-le-mul-right, mul-lt-mul-of-pos-right}
 use lib.Pow.{pow-pos, pow-add}
 
 -- the product of a number of i bits and one of j bits has at most i + j
@@ -11,3 +11,7 @@ product-lt i j {a} {b} ha hb =
 -- a remainder fits where the divisor does
 pub mod-word : (n : ℕ) {m b : ℕ} → 0 < m → m < b → n % m < b
 mod-word n pos h = lt-trans (mod-lt n pos) h
+
+-- the product of two numbers up to m
+pub product-le : {a b m : ℕ} → a ≤ m → b ≤ m → a * b ≤ m * m
+product-le {a} {b} {m} ha hb = le-trans (mul-le-mul-left a hb) (mul-le-mul-right m ha)

@@ -1,6 +1,31 @@
 // The one hash function. Codes, multipliers and the prime are words of 32 bits; their products take 64.
-ghost use Prim.Native.Nat.{_<_};
-ghost use Rattle.hash.specs.Contract.{Hashed};
+ghost use Prim.Native.Nat.{_*_, _<_, _≤_};
+ghost use Rattle.hash.specs.Contract.{Hashed, Remainder, Ready};
+
+// x mod 65,537, without a division: 65,536 is one less than it, so the upper half of x counts negative.
+fn by_halves(x: u64) -> u32
+    requires { ⌜ x ≤ 4294967296 ⌝ }
+    ensures { λ r. ⌜ Remainder x 65537 r ⌝ }
+{
+    let low = x % 65536;
+    let high = x / 65536;
+    if low < high {
+        return (low + 65537 - high) as u32;
+    }
+    (low - high) as u32
+}
+
+// (k × a) mod p.
+pub fn residue(p: u32, k: u32, a: u32) -> u32
+    requires { ⌜ 0 < p ⌝ }
+    ensures { λ r. ⌜ Remainder (k * a) p r ⌝ }
+{
+    let product = (k as u64) * (a as u64);
+    if p == 65537 && k <= 65536 && a <= 65536 {
+        return by_halves(product);
+    }
+    (product % (p as u64)) as u32
+}
 
 // The place of code a among w places: ((k × a) mod p) mod w.
 pub fn hash(p: u32, k: u32, w: u32, a: u32) -> u32
@@ -8,7 +33,38 @@ pub fn hash(p: u32, k: u32, w: u32, a: u32) -> u32
     requires { ⌜ 0 < w ⌝ }
     ensures { λ r. ⌜ Hashed p k w a r ⌝ }
 {
-    let product = (k as u64) * (a as u64);
-    let rest = (product % (p as u64)) as u32;
-    rest % w
+    residue(p, k, a) % w
+}
+
+// The divisor w made ready for many remainders of numbers below p: 2^32 / w rounded up, or 0 where w or p is too large for that.
+pub fn reciprocal(p: u32, w: u32) -> u64
+    requires { ⌜ 0 < w ⌝ }
+    ensures { λ r. ⌜ Ready p w r ⌝ }
+{
+    if 65537 < p || 65535 < w {
+        return 0;
+    }
+    4294967295 / (w as u64) + 1
+}
+
+// x mod w, by the reciprocal of w: a multiplication in place of a division.
+pub fn remainder_by(p: u32, w: u32, reciprocal: u64, x: u32) -> u32
+    requires { ⌜ Ready p w reciprocal ⌝ }
+    requires { ⌜ x < p ⌝ }
+    ensures { λ r. ⌜ Remainder x w r ⌝ }
+{
+    if reciprocal == 0 {
+        return x % w;
+    }
+    let quotient = ((x as u64) * reciprocal / 4294967296) as u32;
+    x - quotient * w
+}
+
+// The hash, for many codes among the same places.
+pub fn hash_by(p: u32, k: u32, w: u32, reciprocal: u64, a: u32) -> u32
+    requires { ⌜ 0 < p ⌝ }
+    requires { ⌜ Ready p w reciprocal ⌝ }
+    ensures { λ r. ⌜ Hashed p k w a r ⌝ }
+{
+    remainder_by(p, w, reciprocal, residue(p, k, a))
 }
