@@ -27,6 +27,19 @@ pub fn residue(p: u32, k: u32, a: u32) -> u32
     (product % (p as u64)) as u32
 }
 
+// The same of numbers below p, as the multipliers and codes of a table that passed its tests are: none of them is tested here.
+pub fn residue_below(p: u32, k: u32, a: u32) -> u32
+    requires { ⌜ k < p ⌝ }
+    requires { ⌜ a < p ⌝ }
+    ensures { λ r. ⌜ Remainder (k * a) p r ⌝ }
+{
+    let product = (k as u64) * (a as u64);
+    if p == 65537 {
+        return by_halves(product);
+    }
+    (product % (p as u64)) as u32
+}
+
 // The place of code a among w places: ((k × a) mod p) mod w.
 pub fn hash(p: u32, k: u32, w: u32, a: u32) -> u32
     requires { ⌜ 0 < p ⌝ }
@@ -67,4 +80,24 @@ pub fn hash_by(p: u32, k: u32, w: u32, reciprocal: u64, a: u32) -> u32
     ensures { λ r. ⌜ Hashed p k w a r ⌝ }
 {
     remainder_by(p, w, reciprocal, residue(p, k, a))
+}
+
+// The hash of numbers below p.
+pub fn hash_below(p: u32, k: u32, w: u32, a: u32) -> u32
+    requires { ⌜ k < p ⌝ }
+    requires { ⌜ a < p ⌝ }
+    requires { ⌜ 0 < w ⌝ }
+    ensures { λ r. ⌜ Hashed p k w a r ⌝ }
+{
+    residue_below(p, k, a) % w
+}
+
+// The hash of numbers below p, for many codes among the same places.
+pub fn hash_below_by(p: u32, k: u32, w: u32, reciprocal: u64, a: u32) -> u32
+    requires { ⌜ k < p ⌝ }
+    requires { ⌜ a < p ⌝ }
+    requires { ⌜ Ready p w reciprocal ⌝ }
+    ensures { λ r. ⌜ Hashed p k w a r ⌝ }
+{
+    remainder_by(p, w, reciprocal, residue_below(p, k, a))
 }
