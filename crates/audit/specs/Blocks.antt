@@ -12,6 +12,10 @@ use Rattle.audit.specs.Check.{codesIn, blockCodes}
 use Rattle.audit.specs.declared.blocks.Placed.{Placed}
 use Rattle.audit.specs.declared.check.Part.{Part}
 
+-- a test holds of one of 0 to n - 1
+abbrev pub some : ℕ → (ℕ → Bool) → Bool
+some n test = ltb (firstOf n test) n
+
 -- none of 13 and 16 holds: the blocks follow one another from cell 0 to cell c
 pub record Starts (words : List ℕ) : Type 0 where
   pub none : codeCount words ≡ 0 → cellCount words ≡ 0
