@@ -5,6 +5,7 @@ pub mod Some
 pub mod Counting
 pub mod Partition
 pub mod Survey
+pub mod Held
 pub mod Passing
 pub mod WellFormed
 pub mod Answered

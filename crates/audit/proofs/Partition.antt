@@ -60,7 +60,7 @@ module _ (words : List ℕ) (s : Starts words) where
   edge-within j h = omega (arith, edges-rise (codeCount words) j h (omega arith), edge-last)
 
   -- a cell of one block is none of another
-  apart :
+  pub apart :
       (b j x y : ℕ) → b < codeCount words → j < codeCount words → (b ≡ j → ⊥) → edge words b ≤ x → x < edge words (b + 1)
       → edge words j ≤ y → y < edge words (j + 1) → x ≡ y → ⊥
   apart b j x y lb lj ne b₀ b₁ j₀ j₁ e =

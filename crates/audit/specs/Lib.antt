@@ -3,3 +3,4 @@ pub mod Check
 pub mod WellFormed
 pub mod Checked
 pub mod Blocks
+pub mod Places

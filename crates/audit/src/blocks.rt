@@ -28,7 +28,7 @@ fn strange(p: u32, k: u32, n: u32, j: u32, q: u32, w: u32, t: u32, a: u32) -> bo
 }
 
 // 1 for a cell that holds a code, 0 for an empty one.
-fn held(a: u32) -> usize
+pub fn held(a: u32) -> usize
     ensures { λ r. ⌜ r ≡ cond (eqb a 0) 0 1 ⌝ }
 {
     if a == 0 {

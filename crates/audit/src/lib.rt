@@ -2,3 +2,4 @@
 mod blocks;
 pub mod check;
 mod conditions;
+mod places;
