@@ -5,15 +5,12 @@ ghost use mathlib.Core.Bool.{true, cond};
 ghost use mathlib.Core.Path.{_≡_};
 ghost use lib.Dec.{eqb};
 ghost use lib.ListN.{length};
-ghost use Rattle.hash.specs.Contract.{Ready};
-ghost use Rattle.table.specs.Words.{codeCount, cellCount, multiplier, total, blockEnd, blockOf};
-ghost use Rattle.table.specs.Sized.{Block, Within};
+ghost use Rattle.table.specs.Words.{codeCount, cellCount, total, blockEnd, blockMultiplier, cellCode};
+ghost use Rattle.table.specs.Sized.{Block, Cell, Within};
 ghost use Rattle.audit.specs.Blocks.{Starts, some};
 ghost use Rattle.audit.specs.Places.{Passed, notOwn, Listed, Uncounted, Placing, Counted, badLoad, Right};
 use crate::blocks::held;
-use table::words::block_multiplier;
 use table::words::block_start;
-use table::words::cell_code;
 use table::words::wide;
 
 // The number of a cell, as it is listed.
@@ -30,6 +27,15 @@ fn square(load: u16) -> u32
     (load as u32) * (load as u32)
 }
 
+// The code in cell i. Here and below n is handed on: what is written between would have it read again for each cell.
+fn code_at(words: &[u32], n: usize, i: usize) -> u32
+    requires { ⌜ Cell (now words) i × (n ≡ codeCount (now words)) ⌝ }
+    requires { ⌜ (n < 4294967296) × (i < 4294967296) ⌝ }
+    ensures { λ r. ⌜ r ≡ cellCode (now (words .entry)) i ⌝ }
+{
+    words[3 + 2 * n + i]
+}
+
 // Lists the cells that hold a code, by rising cell, and gives their number.
 fn list_held(words: &[u32], cells: &mut [u16]) -> usize
     requires { ⌜ total (now words) ≤ length (now words) ⌝ }
@@ -37,12 +43,13 @@ fn list_held(words: &[u32], cells: &mut [u16]) -> usize
     requires { ⌜ cellCount (now words) < 65536 ⌝ }
     ensures { λ r. ⌜ Listed (now (words .entry)) (now (cells .exit)) r ⌝ }
 {
+    let n = wide(words[0]);
     let c = wide(words[1]);
     let mut count: usize = 0;
     let mut i: usize = 0;
     while i < c {
         cells[count] = i as u16;
-        count = count + held(cell_code(words, i));
+        count = count + held(code_at(words, n, i));
         i = i + 1;
     }
     count
@@ -60,11 +67,21 @@ fn end_at(n: usize, j: usize) -> usize
 }
 
 // Where block j ends: the word is chosen, and not the way to it.
-fn block_end(words: &[u32], j: usize) -> u32
-    requires { ⌜ Block (now words) j ⌝ }
+fn end_of(words: &[u32], n: usize, j: usize) -> u32
+    requires { ⌜ Block (now words) j × (n ≡ codeCount (now words)) ⌝ }
+    requires { ⌜ n < 4294967296 ⌝ }
     ensures { λ r. ⌜ r ≡ blockEnd (now (words .entry)) j ⌝ }
 {
-    words[end_at(wide(words[0]), j)]
+    words[end_at(n, j)]
+}
+
+// The multiplier q of block j.
+fn multiplier_of(words: &[u32], n: usize, j: usize) -> u32
+    requires { ⌜ Block (now words) j × (n ≡ codeCount (now words)) ⌝ }
+    requires { ⌜ n < 4294967296 ⌝ }
+    ensures { λ r. ⌜ r ≡ blockMultiplier (now (words .entry)) j ⌝ }
+{
+    words[3 + n + j]
 }
 
 // The number, or 1 for 0.
@@ -77,25 +94,15 @@ fn some_cells(cells: u32) -> u32
     cells
 }
 
-// The block that a code belongs to.
-fn block_by(p: u32, words: &[u32], reciprocal: u64, a: u32) -> usize
-    requires { ⌜ 3 ≤ length (now words) ⌝ }
-    requires { ⌜ (multiplier (now words) < p) × (a < p) ⌝ }
-    requires { ⌜ Ready p (codeCount (now words)) reciprocal ⌝ }
-    ensures { λ r. ⌜ Within (blockOf p (now (words .entry)) a) (codeCount (now (words .entry))) r ⌝ }
-{
-    wide(hash::hash_below_by(p, words[2], words[0], reciprocal, a))
-}
-
 // Cell i is not the own cell of code a, which belongs to block j.
-fn not_own(p: u32, words: &[u32], j: usize, a: u32, i: usize) -> bool
-    requires { ⌜ Passed p 2048 (now words) ⌝ }
+fn not_own(p: u32, words: &[u32], n: usize, j: usize, a: u32, i: usize) -> bool
+    requires { ⌜ Passed p 2048 (now words) × (n ≡ codeCount (now words)) ⌝ }
     requires { ⌜ (j < codeCount (now words)) × (a < p) ⌝ }
     ensures { λ r. ⌜ r ≡ notOwn p (now (words .entry)) j a i ⌝ }
 {
     let start = block_start(words, j);
-    let w = block_end(words, j) - start;
-    let place = hash::hash_below(p, block_multiplier(words, j), some_cells(w), a);
+    let w = end_of(words, n, j) - start;
+    let place = hash::hash_below(p, multiplier_of(words, n, j), some_cells(w), a);
     (w == 0) | (wide(start) + wide(place) != i)
 }
 
@@ -104,13 +111,16 @@ fn place_cells(p: u32, words: &[u32], reciprocal: u64, cells: &[u16], loads: &mu
     requires { ⌜ Placing p (now words) reciprocal (now cells) (now loads) ⌝ }
     ensures { λ r. ⌜ Counted p (now (words .entry)) (now (cells .entry)) r (now (loads .exit)) ⌝ }
 {
+    let n = words[0];
+    let k = words[2];
+    let blocks = wide(n);
     let mut wrong = false;
     let mut t: usize = 0;
     while t < cells.len() {
         let i = listed(cells[t]);
-        let a = cell_code(words, i);
-        let j = block_by(p, words, reciprocal, a);
-        wrong = wrong | not_own(p, words, j, a, i);
+        let a = code_at(words, blocks, i);
+        let j = wide(hash::hash_below_by(p, k, n, reciprocal, a));
+        wrong = wrong | not_own(p, words, blocks, j, a, i);
         loads[j] = loads[j] + 1;
         t = t + 1;
     }

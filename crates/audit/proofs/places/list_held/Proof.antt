@@ -20,10 +20,10 @@ record Inv (words old cells : List ℕ) (count i : ℕ) : Type 0 where
   listing : Listing words cells count i
 
 abbrev Inv-loop : tie.InvT-loop
-Inv-loop words cells₀ c count₀ i₀ cells count i = Inv words cells₀ cells count i
+Inv-loop words cells₀ n c count₀ i₀ cells count i = Inv words cells₀ cells count i
 
 abbrev μ-loop : tie.MeasureT-loop
-μ-loop words cells₀ c count₀ i₀ cells count i = cellCount words - i
+μ-loop words cells₀ n c count₀ i₀ cells count i = cellCount words - i
 
 loop-holds : tie.Need-loop-holds Inv-loop μ-loop
 loop-holds c = record { within = omega arith; long = refl; listing = listing-none _ _ }
@@ -31,17 +31,17 @@ loop-holds c = record { within = omega arith; long = refl; listing = listing-non
 add-count : tie.Need-add-count Inv-loop μ-loop
 add-count c =
     omega
-    (arith, c .before .before .before .loop .inv .listing .within, c .held .ensures, one-at-most (eqb (c .before .cell-code .result) 0))
+    (arith, c .before .before .before .loop .inv .listing .within, c .held .ensures, one-at-most (eqb (c .before .code-at .result) 0))
 
 loop-again : tie.Need-loop-again Inv-loop μ-loop
 loop-again c =
     let l = c .before .before .before .loop in
-    let words = c .before .before .before .before .before .before .before .before .args .words .now in
+    let words = c .before .before .before .before .before .before .before .before .before .before .args .words .now in
     record {
       within = omega arith;
       long = length-set (l .cells) (l .count) (l .i) ∙ l .inv .long;
       listing =
-          rw (c .held .ensures, c .before .cell-code .ensures)
+          rw (c .held .ensures, c .before .code-at .ensures)
           (listing-next words (l .cells) (l .count) (l .i) (omega (arith, l .inv .long)) (l .inv .listing));
     }
 
@@ -54,6 +54,8 @@ list-held-spec =
     (tie.spec
     Inv-loop
     μ-loop
+    (λ c. omega arith)
+    (λ c κs. search needs)
     (λ c. omega arith)
     (λ c κs. search needs)
     loop-holds

@@ -33,12 +33,12 @@ sub-w : tie.Need-sub-w
 sub-w c =
     let b = c .before .before .before in
     omega
-    (arith, c .before .block-start .ensures, c .block-end .ensures, start-le-end (b .args .words .now) (b .pre .0 .starts) (b .args .j) (b .pre .1 .0))
+    (arith, c .before .block-start .ensures, c .end-of .ensures, start-le-end (b .args .words .now) (b .pre .0 .0 .starts) (b .args .j) (b .pre .1 .0))
 
 hash-below-requires : tie.Need-hash-below-requires
 hash-below-requires c κs =
     let b = c .before .before .before .before .before in
-    (omega (arith, c .before .block-multiplier .ensures, b .pre .0 .multipliers (b .args .j) (b .pre .1 .0)), (b .pre .1 .1, c .some-cells .ensures .0))
+    (omega (arith, c .before .multiplier-of .ensures, b .pre .0 .0 .multipliers (b .args .j) (b .pre .1 .0)), (b .pre .1 .1, c .some-cells .ensures .0))
 
 returns : tie.Need-returns
 returns c =
@@ -47,8 +47,8 @@ returns c =
     let end = cells .before .before in
     let start = end .before in
     rw (c .before .wide .ensures .value, c .wide2 .ensures .value)
-    (same-test _ _ _ _ _ _ _ _ _ (start .block-start .ensures) (end .block-end .ensures) (sub-w end) (cells .some-cells .ensures .1)
-    (hash .hash-below .ensures .value ∙ rw (cells .before .block-multiplier .ensures) refl))
+    (same-test _ _ _ _ _ _ _ _ _ (start .block-start .ensures) (end .end-of .ensures) (sub-w end) (cells .some-cells .ensures .1)
+    (hash .hash-below .ensures .value ∙ rw (cells .before .multiplier-of .ensures) refl))
 
 pub not-own-spec : {M : Type 1} → statement M
 not-own-spec =
