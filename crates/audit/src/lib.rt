@@ -2,4 +2,3 @@
 mod blocks;
 pub mod check;
 mod conditions;
-mod places;

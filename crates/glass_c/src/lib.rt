@@ -8,7 +8,7 @@ mod read;
 
 ghost use Rattle.table.specs.Lookup.{lookupOf};
 ghost use Rattle.table.specs.Panel.{panelOf};
-ghost use Rattle.audit.specs.Check.{checkOf};
+ghost use Rattle.faults.specs.Check.{checkOf};
 ghost use Rattle.glass_c.specs.Numbers.{Shown};
 ghost use Rattle.glass_c.specs.Exports.{BuildShown, PairsShown, InsertShown, RemoveShown};
 

@@ -7,7 +7,7 @@ use lib.Dec.{eqb, ltb}
 use lib.ListN.{length}
 use Rattle.table.specs.Answers.{Answer, given, absent, unknown, refused, refuse}
 use Rattle.table.specs.Words.{codeCount, cellCount, multiplier}
-use Rattle.audit.specs.Check.{checkOf}
+use Rattle.faults.specs.Check.{checkOf}
 use Rattle.reader.specs.Pairs.{Pair, pairsIn}
 
 -- the words of a file: four bytes each, least byte first; a last part of less than four bytes is no word

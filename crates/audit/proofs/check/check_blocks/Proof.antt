@@ -8,9 +8,9 @@ use borrow.Author.Needs.{needs}
 use Rattle.table.specs.Words.{codeCount, cellCount}
 use Rattle.table.specs.Answers.{firstOf}
 use Rattle.table.proofs.First.{Below, none-refused}
-use Rattle.audit.specs.Check.{badStart, badBlockMultiplier, badCell}
+use Rattle.faults.specs.Check.{badStart, badBlockMultiplier, badCell}
 use Rattle.audit.specs.Checked.{fromStarts}
-use Rattle.audit.proofs.Passing.{starts-pass, multiplier-passes, cell-passes}
+use Rattle.faults.proofs.Passing.{starts-pass, multiplier-passes, cell-passes}
 use Rattle.audit.proofs.check.check_blocks.Statement.{statement}
 use Rattle.audit.proofs.check.check_blocks.Tie as tie
 

@@ -7,8 +7,8 @@ use native.Mathlib.Omega.{arith}
 use borrow.Author.Needs.{needs}
 use Rattle.table.specs.Answers.{given}
 use Rattle.table.specs.Words.{codeCount}
-use Rattle.audit.proofs.Bounds.{total-le}
-use Rattle.audit.proofs.Held.{right-accepted}
+use Rattle.faults.proofs.Bounds.{total-le}
+use Rattle.audit.proofs.Survey.{right-accepted}
 use Rattle.audit.proofs.check.check_cells.Statement.{statement}
 use Rattle.audit.proofs.check.check_cells.Tie as tie
 

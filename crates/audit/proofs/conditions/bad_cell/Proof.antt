@@ -3,7 +3,7 @@
 use mathlib.Core.Bool.{or-assoc}
 use mathlib.Core.Path.{refl}
 use borrow.Author.Needs.{needs}
-use Rattle.audit.specs.Check.{badCell}
+use Rattle.faults.specs.Check.{badCell}
 use Rattle.audit.proofs.conditions.bad_cell.Statement.{statement}
 use Rattle.audit.proofs.conditions.bad_cell.Tie as tie
 
