@@ -1,10 +1,7 @@
--- In reading order: what the sizes bound, the codes of a run of cells, the blocks that follow one another, and one pass over them;
--- then what the tests of a check tell, the tables that it accepts, what its answer says, and what is looked up in an accepted table.
-pub mod Bounds
-pub mod Counting
-pub mod Partition
+-- In reading order: the part of the words that a block is, and one pass over the blocks; then the tables that a check accepts, what its answer
+-- says, and what is looked up in an accepted table.
+pub mod Parts
 pub mod Survey
-pub mod Passing
 pub mod WellFormed
 pub mod Answered
 pub mod Lookups

@@ -19,9 +19,9 @@ use Rattle.hash.proofs.Indicators.{true-or-false}
 use Rattle.table.proofs.Laws.{within}
 use Rattle.table.proofs.Refusals.{never-both}
 use Rattle.audit.specs.WellFormed.{WellFormed}
-use Rattle.audit.specs.Blocks.{Starts}
-use Rattle.audit.proofs.Partition.{block-lt, start-le-end, end-within, cell-lt}
-use Rattle.audit.proofs.Bounds.{some-codes}
+use Rattle.faults.specs.Starts.{Starts}
+use Rattle.faults.proofs.Partition.{block-lt, start-le-end, end-within, cell-lt}
+use Rattle.faults.proofs.Bounds.{some-codes}
 use Rattle.audit.proofs.WellFormed.{cells-hold}
 
 -- x is from low to high

@@ -17,11 +17,11 @@ use Rattle.table.specs.Sized.{Sized}
 use Rattle.table.proofs.Laws.{sized-by}
 use Rattle.table.proofs.First.{none-refused}
 use Rattle.table.proofs.Refusals.{Refusal, Passed, Settled, refusals-pass, refusals-given, refusals-settled}
-use Rattle.audit.specs.Check.{checkOf, badStart, badBlockMultiplier, badCell, misplaced, badSquare, codesIn, allCodes}
+use Rattle.faults.specs.Check.{checkOf, badStart, badBlockMultiplier, badCell, misplaced, badSquare, codesIn, allCodes}
 use Rattle.audit.specs.WellFormed.{WellFormed}
-use Rattle.audit.specs.Blocks.{Starts}
-use Rattle.audit.proofs.Bounds.{some-codes}
-use Rattle.audit.proofs.Passing.{starts-pass, starts-hold, multiplier-passes, cell-passes, place-passes, square-passes}
+use Rattle.faults.specs.Starts.{Starts}
+use Rattle.faults.proofs.Bounds.{some-codes}
+use Rattle.faults.proofs.Passing.{starts-pass, starts-hold, multiplier-passes, cell-passes, place-passes, square-passes}
 
 first-refusal : ℕ → (ℕ → Bool) → ℕ → Refusal
 first-refusal n test number = record { fails = ltb (firstOf n test) n; number = number; value = firstOf n test }

@@ -1,5 +1,5 @@
 -- One block of a table by itself: what the check hands on, and what it relies on there.
-use Prim.Native.Nat.{ℕ, suc, _+_, _-_, _<_, _≤_}
+use Prim.Native.Nat.{ℕ, suc, _-_}
 use mathlib.Core.Bool.{Bool, cond, not, _&&_}
 use mathlib.Core.List.{List}
 use mathlib.Core.Path.{_≡_}
@@ -7,17 +7,10 @@ use lib.Dec.{eqb, ltb}
 use lib.ListN.{length, getD}
 use Rattle.hash.specs.Hash.{hashOf}
 use Rattle.table.specs.Answers.{firstOf}
-use Rattle.table.specs.Words.{codeCount, cellCount, multiplier, blockStart, blockEnd, blockMultiplier}
-use Rattle.audit.specs.Check.{codesIn, blockCodes}
+use Rattle.table.specs.Words.{codeCount, multiplier, blockStart, blockEnd, blockMultiplier}
+use Rattle.faults.specs.Check.{codesIn, blockCodes}
 use Rattle.audit.specs.declared.blocks.Placed.{Placed}
 use Rattle.audit.specs.declared.check.Part.{Part}
-
--- none of 13 and 16 holds: the blocks follow one another from cell 0 to cell c
-pub record Starts (words : List ℕ) : Type 0 where
-  pub none : codeCount words ≡ 0 → cellCount words ≡ 0
-  pub first : 0 < codeCount words → blockStart words 0 ≡ 0
-  pub rising : (j : ℕ) → j + 1 < codeCount words → blockStart words j ≤ blockStart words (j + 1)
-  pub within : (j : ℕ) → j < codeCount words → blockStart words j ≤ cellCount words
 
 -- code a at place t of the w cells of block j is in a cell that is not its own: its block or its place is another
 unfoldable pub strange : ℕ → ℕ → ℕ → ℕ → ℕ → ℕ → ℕ → ℕ → Bool

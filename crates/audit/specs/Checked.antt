@@ -5,7 +5,7 @@ use mathlib.Core.List.{List, [], _∷_}
 use lib.Dec.{eqb, ltb}
 use Rattle.table.specs.Answers.{Answer, given, refused, refuse, refuseFirst, firstOf}
 use Rattle.table.specs.Words.{codeCount, cellCount, total}
-use Rattle.audit.specs.Check.{badStart, badBlockMultiplier, badCell, misplaced, badSquare, codesIn, allCodes}
+use Rattle.faults.specs.Check.{badStart, badBlockMultiplier, badCell, misplaced, badSquare, codesIn, allCodes}
 use Rattle.audit.specs.declared.check.Checked.{Checked}
 use Rattle.audit.specs.declared.check.Checked.the-variants.{Accepted, TooFewWords, TooManyCodes, TooManyCells, BadMultiplier, TooShort, BadStart, BadBlockMultiplier, BadCell, Misplaced, NotSquare, WrongCount}
 

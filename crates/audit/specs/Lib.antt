@@ -1,5 +1,4 @@
--- In reading order: what a check answers, and which tables are well-formed; then what the code promises.
-pub mod Check
+-- In reading order: which tables are well-formed; then what the code promises.
 pub mod WellFormed
 pub mod Checked
 pub mod Blocks

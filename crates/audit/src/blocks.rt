@@ -1,10 +1,9 @@
 // One block of a table by itself: its codes are handed on as the part of the words that belongs to it.
-ghost use Prim.Native.Nat.{suc, _+_, _*_, _-_, _<_, _≤_};
-ghost use mathlib.Core.Bool.{cond};
+ghost use Prim.Native.Nat.{_+_, _-_, _<_};
 ghost use mathlib.Core.Path.{_≡_};
-ghost use lib.Dec.{eqb, ltb};
 ghost use lib.ListN.{length};
 ghost use Rattle.audit.specs.Blocks.{strange, firstNext, Tested};
+use faults::places::held;
 
 // What the test of a block finds: the index of the first code in a cell that is not its own, the number of cells where there is none; and how
 // many codes there are.
@@ -25,16 +24,6 @@ fn strange(p: u32, k: u32, n: u32, j: u32, q: u32, w: u32, t: u32, a: u32) -> bo
         return true;
     }
     hash::hash(p, q, w, a) != t
-}
-
-// 1 for a cell that holds a code, 0 for an empty one.
-fn held(a: u32) -> usize
-    ensures { λ r. ⌜ r ≡ cond (eqb a 0) 0 1 ⌝ }
-{
-    if a == 0 {
-        return 0;
-    }
-    1
 }
 
 // The first of 0 to i of which a test holds, i + 1 where there is none, from the first of those below i.

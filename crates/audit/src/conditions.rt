@@ -5,7 +5,8 @@ ghost use lib.ListN.{length};
 ghost use Rattle.table.specs.Answers.{firstOf};
 ghost use Rattle.table.specs.Words.{codeCount, cellCount, total};
 ghost use Rattle.table.specs.Sized.{Block, Cell};
-ghost use Rattle.audit.specs.Check.{badStart, badBlockMultiplier, badCell};
+ghost use Rattle.faults.specs.Starts.{some};
+ghost use Rattle.faults.specs.Check.{badStart, badBlockMultiplier, badCell};
 use table::words::block_multiplier;
 use table::words::block_start;
 use table::words::cell_code;
@@ -28,23 +29,63 @@ fn bad_start(words: &[u32], j: usize) -> bool
     start < block_start(words, j - 1)
 }
 
-// 18: a code above p - 1, a schedule above 999, or exactly one of the two 0.
+// 18: a code above p - 1, a schedule above 999, or exactly one of the two 0. Without a branch, so that many cells are tested at once.
 fn bad_cell(p: u32, words: &[u32], i: usize) -> bool
     requires { ⌜ (1 ≤ p) × Cell (now words) i ⌝ }
     ensures { λ r. ⌜ r ≡ badCell p (now (words .entry)) i ⌝ }
 {
     let code = cell_code(words, i);
     let schedule = cell_schedule(words, i);
-    if p - 1 < code {
-        return true;
+    (p - 1 < code) | (999 < schedule) | ((code == 0) != (schedule == 0))
+}
+
+// 16, of any block: all are tested, without a branch.
+fn some_bad_start(words: &[u32]) -> bool
+    requires { ⌜ total (now words) ≤ length (now words) ⌝ }
+    ensures { λ r. ⌜ r ≡ some (codeCount (now (words .entry))) (badStart (now (words .entry))) ⌝ }
+{
+    let n = wide(words[0]);
+    if n == 0 {
+        return false;
     }
-    if 999 < schedule {
-        return true;
+    let mut bad = bad_start(words, 0);
+    let mut j: usize = 1;
+    while j < n {
+        let start = block_start(words, j);
+        bad = bad | (start < block_start(words, j - 1)) | (words[1] < start);
+        j = j + 1;
     }
-    if code == 0 {
-        return schedule != 0;
+    bad
+}
+
+// 17, of any block.
+fn some_bad_multiplier(p: u32, words: &[u32]) -> bool
+    requires { ⌜ (1 ≤ p) × (total (now words) ≤ length (now words)) ⌝ }
+    ensures { λ r. ⌜ r ≡ some (codeCount (now (words .entry))) (badBlockMultiplier p (now (words .entry))) ⌝ }
+{
+    let n = wide(words[0]);
+    let mut bad = false;
+    let mut j: usize = 0;
+    while j < n {
+        bad = bad | outside(1, p - 1, block_multiplier(words, j));
+        j = j + 1;
     }
-    schedule == 0
+    bad
+}
+
+// 18, of any cell.
+fn some_bad_cell(p: u32, words: &[u32]) -> bool
+    requires { ⌜ (1 ≤ p) × (total (now words) ≤ length (now words)) ⌝ }
+    ensures { λ r. ⌜ r ≡ some (cellCount (now (words .entry))) (badCell p (now (words .entry))) ⌝ }
+{
+    let c = wide(words[1]);
+    let mut bad = false;
+    let mut i: usize = 0;
+    while i < c {
+        bad = bad | bad_cell(p, words, i);
+        i = i + 1;
+    }
+    bad
 }
 
 // 16: the first block with a bad start, n where there is none.
@@ -53,6 +94,9 @@ pub fn first_bad_start(words: &[u32]) -> usize
     ensures { λ r. ⌜ r ≡ firstOf (codeCount (now (words .entry))) (badStart (now (words .entry))) ⌝ }
 {
     let n = wide(words[0]);
+    if !some_bad_start(words) {
+        return n;
+    }
     let mut j: usize = 0;
     while j < n {
         if bad_start(words, j) {
@@ -69,6 +113,9 @@ pub fn first_bad_multiplier(p: u32, words: &[u32]) -> usize
     ensures { λ r. ⌜ r ≡ firstOf (codeCount (now (words .entry))) (badBlockMultiplier p (now (words .entry))) ⌝ }
 {
     let n = wide(words[0]);
+    if !some_bad_multiplier(p, words) {
+        return n;
+    }
     let mut j: usize = 0;
     while j < n {
         if outside(1, p - 1, block_multiplier(words, j)) {
@@ -85,6 +132,9 @@ pub fn first_bad_cell(p: u32, words: &[u32]) -> usize
     ensures { λ r. ⌜ r ≡ firstOf (cellCount (now (words .entry))) (badCell p (now (words .entry))) ⌝ }
 {
     let c = wide(words[1]);
+    if !some_bad_cell(p, words) {
+        return c;
+    }
     let mut i: usize = 0;
     while i < c {
         if bad_cell(p, words, i) {

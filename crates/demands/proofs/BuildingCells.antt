@@ -20,8 +20,8 @@ use Rattle.hash.proofs.Members.{codes-tail, members-codes}
 use Rattle.table.specs.TwoLevel.{tabulate, startOf, heldIn}
 use Rattle.table.proofs.Front.{sizeOf, blockQ, start-last, Fronted}
 use Rattle.table.proofs.Own.{block-apart}
-use Rattle.audit.specs.Check.{codesIn}
-use Rattle.audit.proofs.Counting.{codes-append}
+use Rattle.faults.specs.Check.{codesIn}
+use Rattle.faults.proofs.Counting.{codes-append}
 use Rattle.search.specs.Placed.{placed}
 use Rattle.search.proofs.PlacedLaws.{placed-here, placed-later, placed-none}
 use Rattle.search.proofs.BlockCells.{block-cells}

@@ -19,7 +19,7 @@ use Rattle.table.proofs.Front.{sizeOf, blockQ, start-first, start-next, start-r
 use Rattle.table.proofs.Chosen.{cells-least, blocks-range, few-cells, no-cells}
 use Rattle.table.proofs.Own.{listed-load}
 use Rattle.table.proofs.Contents.{Tabled, Filled, Empty, filled-or-empty, cellsOf-is, needed-is}
-use Rattle.audit.specs.Check.{codesIn, blockCodes, allCodes}
+use Rattle.faults.specs.Check.{codesIn, blockCodes, allCodes}
 use Rattle.audit.specs.WellFormed.{WellFormed}
 use Rattle.search.specs.Placed.{placed}
 use Rattle.search.proofs.BlockCells.{held-placed}

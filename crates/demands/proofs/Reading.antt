@@ -11,7 +11,7 @@ use lib.ListN.{length, getD, length-map}
 use Rattle.table.specs.Answers.{given}
 use Rattle.table.specs.Words.{codeCount}
 use Rattle.table.specs.Lookup.{lookupOf}
-use Rattle.audit.specs.Check.{checkOf}
+use Rattle.faults.specs.Check.{checkOf}
 use Rattle.audit.specs.WellFormed.{WellFormed}
 use Rattle.reader.specs.Pairs.{Pair, codesOf, schedulesOf, pairsIn, pairsOf}
 use Rattle.audit.proofs.WellFormed.{check-exactly}

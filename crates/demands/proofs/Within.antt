@@ -11,7 +11,7 @@ use lib.ListN.{length, getD}
 use borrow.Author.Tests.{eqb-false, ltb-true}
 use Rattle.table.specs.Words.{codeCount, cellCount, total, blockStart, blockEnd, blockOf, cellIn, ownCell}
 use Rattle.audit.specs.WellFormed.{WellFormed}
-use Rattle.audit.proofs.Partition.{block-lt, end-within, cell-lt}
+use Rattle.faults.proofs.Partition.{block-lt, end-within, cell-lt}
 use Rattle.audit.proofs.Lookups.{starts}
 use Rattle.demands.specs.Lists.{lookedAt}
 

@@ -9,7 +9,7 @@ use Rattle.table.specs.Answers.{given}
 use Rattle.table.specs.Words.{codeCount, total}
 use Rattle.table.specs.TwoLevel.{wordsNeeded, tableOf}
 use Rattle.table.specs.Lookup.{lookupOf}
-use Rattle.audit.specs.Check.{checkOf}
+use Rattle.faults.specs.Check.{checkOf}
 use Rattle.audit.specs.WellFormed.{WellFormed}
 use Rattle.reader.specs.Pairs.{codesOf, schedulesOf, pairsIn, pairsOf}
 use Rattle.builder.specs.Build.{buildOf, builtWords}

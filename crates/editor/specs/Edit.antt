@@ -8,7 +8,7 @@ use lib.ListN.{length}
 use Rattle.table.specs.Answers.{Answer, given, refuse, orRefused, outside, filled}
 use Rattle.table.specs.Words.{codeCount}
 use Rattle.table.specs.TwoLevel.{wordsNeeded, tableOf}
-use Rattle.audit.specs.Check.{checkOf}
+use Rattle.faults.specs.Check.{checkOf}
 use Rattle.reader.specs.Pairs.{Pair, codesOf, schedulesOf, pairsIn}
 use Rattle.refusals.specs.Repeats.{among}
 

@@ -1,7 +1,7 @@
 // The C interface (include/glass.h): each function shows the answer of the proved one as a number and a value.
 ghost use Rattle.table.specs.Lookup.{lookupOf};
 ghost use Rattle.table.specs.Panel.{panelOf};
-ghost use Rattle.audit.specs.Check.{checkOf};
+ghost use Rattle.faults.specs.Check.{checkOf};
 ghost use Rattle.shown.specs.Numbers.{Shown};
 ghost use Rattle.glass_c.specs.Exports.{BuildShown, PairsShown, InsertShown, RemoveShown};
 use shown::GlassAnswer;

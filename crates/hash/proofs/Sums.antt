@@ -105,3 +105,16 @@ sum-once t (suc n) once =
     before : t n ≡ true → (i : ℕ) → i < n → indicator (t i) ≤ 0
     before e i l =
         elim (true-or-false (t i)) [ inl p ↦ absurd (once i n l (omega arith) p e) | inr p ↦ omega (arith, indicator-false (t i) p) ]
+
+-- the first a, and the b after them
+pub sum-split : (f : ℕ → ℕ) (a b : ℕ) → sum f (a + b) ≡ sum f a + sum (λ i. f (a + i)) b
+unfolding sum
+sum-split f a zero =
+    let e : a + zero ≡ a = omega arith in
+    omega (arith, ap (sum f) e)
+sum-split f a (suc b) =
+    let e : a + suc b ≡ suc (a + b) = omega arith in
+    omega (arith, ap (sum f) e, sum-split f a b)
+
+pub sum-none : (f : ℕ → ℕ) (n : ℕ) → ((i : ℕ) → i < n → f i ≡ 0) → sum f n ≡ 0
+sum-none f n none = omega (arith, sum-at-most f 0 n (λ i l. omega (arith, none i l)))

@@ -11,7 +11,7 @@ use lib.ListN.{length, take, drop, length-map}
 use lib.Seq.{take-at}
 use Rattle.table.specs.Answers.{Answer, given, refused}
 use Rattle.table.specs.Words.{codeCount}
-use Rattle.audit.specs.Check.{checkOf}
+use Rattle.faults.specs.Check.{checkOf}
 use Rattle.reader.specs.Pairs.{Pair, codesOf, schedulesOf, pairsIn, pairsOf, PairsRead}
 use Rattle.audit.specs.WellFormed.{WellFormed}
 use Rattle.reader.proofs.PairLaws.{pairs-length}

@@ -9,7 +9,7 @@ use Rattle.text.specs.Bytes.{wordsOf}
 use Rattle.text.specs.Decimal.{decimal}
 use Rattle.table.specs.Answers.{Answer, given, absent, unknown, refused, refuse}
 use Rattle.table.specs.Words.{codeCount, cellCount, multiplier}
-use Rattle.audit.specs.Check.{checkOf}
+use Rattle.faults.specs.Check.{checkOf}
 use Rattle.reader.specs.Pairs.{Pair, pairsIn}
 
 abbrev pub space : List ℕ

@@ -10,7 +10,7 @@ use text::words::words_of;
 ghost use Prim.Native.Nat.{_≤_};
 ghost use mathlib.Core.Path.{_≡_};
 ghost use lib.ListN.{length};
-ghost use Rattle.audit.specs.Check.{checkOf};
+ghost use Rattle.faults.specs.Check.{checkOf};
 ghost use Rattle.audit.specs.Checked.{checkedOf};
 ghost use Rattle.reader.specs.ReadBack.{readOf};
 ghost use Rattle.text.specs.Added.{Added};

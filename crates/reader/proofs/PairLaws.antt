@@ -17,7 +17,7 @@ use Rattle.table.specs.Answers.{given, firstOf}
 use Rattle.table.specs.Words.{codeCount, cellCount, total, cellCode, cellSchedule, ownCell}
 use Rattle.table.specs.Lookup.{lookupOf}
 use Rattle.table.proofs.First.{First, first-is}
-use Rattle.audit.specs.Check.{allCodes}
+use Rattle.faults.specs.Check.{allCodes}
 use Rattle.audit.specs.WellFormed.{WellFormed}
 use Rattle.reader.specs.Pairs.{Pair, codesOf, allSchedules, stored, pairsIn}
 use Rattle.audit.proofs.Lookups.{lookup-range, lookup-found, lookup-absent}

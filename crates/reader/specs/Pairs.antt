@@ -1,13 +1,13 @@
 -- Reading a table back (document 01, "Read back").
 use Prim.Native.Nat.{ℕ, _+_, _*_}
-use mathlib.Core.Bool.{Bool, cond, _||_}
+use mathlib.Core.Bool.{cond, _||_}
 use mathlib.Core.List.{List, [], _∷_, map}
 use mathlib.Core.Path.{_≡_}
 use lib.Dec.{eqb, ltb, leb}
 use lib.ListN.{length, take, drop}
 use Rattle.table.specs.Answers.{Answer, given, refuse, orRefused, filled}
 use Rattle.table.specs.Words.{codeCount, cellCount}
-use Rattle.audit.specs.Check.{checkOf, allCodes}
+use Rattle.faults.specs.Check.{checkOf, allCodes}
 
 -- a code with its schedule
 pub record Pair : Type 0 where

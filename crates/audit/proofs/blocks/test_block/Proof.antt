@@ -10,9 +10,9 @@ use borrow.Author.Needs.{needs}
 use lib.ListN.{length, drop}
 use Rattle.table.specs.Answers.{firstOf}
 use Rattle.table.proofs.First.{first-next}
-use Rattle.audit.specs.Check.{codesIn}
+use Rattle.faults.specs.Check.{codesIn}
 use Rattle.audit.specs.Blocks.{strange, strangeAt}
-use Rattle.audit.proofs.Counting.{codes-from, codes-le, codes-end}
+use Rattle.faults.proofs.Counting.{codes-from, codes-le, codes-end}
 use Rattle.audit.proofs.blocks.test_block.Statement.{statement}
 use Rattle.audit.proofs.blocks.test_block.Tie as tie
 

@@ -10,9 +10,9 @@ use lib.ListN.{length}
 use Rattle.table.specs.Words.{codeCount}
 use Rattle.table.specs.Lookup.{tooManyCodes, tooManyCells, badMultiplier}
 use Rattle.table.proofs.Laws.{sized-by}
-use Rattle.audit.specs.Check.{checkOf}
+use Rattle.faults.specs.Check.{checkOf}
 use Rattle.audit.specs.Checked.{fromStarts}
-use Rattle.audit.proofs.Bounds.{total-le-by}
+use Rattle.faults.proofs.Bounds.{total-le-by}
 use Rattle.audit.proofs.check.check_at.Statement.{statement}
 use Rattle.audit.proofs.check.check_at.Tie as tie
 

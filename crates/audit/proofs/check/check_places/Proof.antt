@@ -8,7 +8,7 @@ use native.Mathlib.Omega.{arith}
 use borrow.Author.Needs.{needs}
 use Rattle.hash.proofs.Words.{product-lt}
 use Rattle.table.specs.Words.{codeCount, cellCount}
-use Rattle.audit.proofs.Bounds.{cells-le, total-le}
+use Rattle.faults.proofs.Bounds.{cells-le, total-le}
 use Rattle.audit.proofs.Survey.{Surveyed, Turn, surveyed-none, surveyed-found, surveyed-next, surveyed-all, surveyed-codes, part-within, part-codes}
 use Rattle.audit.proofs.check.check_places.Statement.{statement}
 use Rattle.audit.proofs.check.check_places.Tie as tie

@@ -5,7 +5,8 @@ use mathlib.Core.Path.{_∙_}
 use native.Mathlib.Omega.{arith}
 use borrow.Author.Needs.{needs}
 use Rattle.table.specs.Words.{cellCount, blockStart, blockEnd}
-use Rattle.audit.proofs.Partition.{start-le-end, end-within, part-is}
+use Rattle.faults.proofs.Partition.{start-le-end, end-within}
+use Rattle.audit.proofs.Parts.{part-is}
 use Rattle.audit.proofs.check.part_at.Statement.{statement}
 use Rattle.audit.proofs.check.part_at.Tie as tie
 

@@ -3,7 +3,7 @@
 use mathlib.Core.Bool.{or-true, or-false}
 use borrow.Author.Needs.{needs}
 use Rattle.table.proofs.Laws.{tests}
-use Rattle.audit.specs.Check.{badStart}
+use Rattle.faults.specs.Check.{badStart}
 use Rattle.audit.proofs.conditions.bad_start.Statement.{statement}
 use Rattle.audit.proofs.conditions.bad_start.Tie as tie
 

@@ -9,7 +9,7 @@ use native.Mathlib.Omega.{arith}
 use lib.Dec.{eqb}
 use lib.ListN.{length, getD, take, drop, drop-of-length-le}
 use lib.Seq.{drop-cons, take-add}
-use Rattle.audit.specs.Check.{codesIn}
+use Rattle.faults.specs.Check.{codesIn}
 
 pub one-at-most : (b : Bool) → cond b 0 1 ≤ 1
 one-at-most true = omega arith

@@ -14,9 +14,9 @@ use lib.Dec.{eqb, ltb}
 use Rattle.table.specs.Words.{codeCount, cellCount, blockStart, blockEnd, blockMultiplier, cellCode, cellSchedule, blockOf, ownCell}
 use Rattle.table.proofs.Laws.{or-false, within}
 use Rattle.table.proofs.First.{Below}
-use Rattle.audit.specs.Check.{badStart, badBlockMultiplier, badCell, misplaced, badSquare, codesIn, blockCodes}
-use Rattle.audit.specs.Blocks.{Starts}
-use Rattle.audit.proofs.Partition.{block-lt, start-le-end}
+use Rattle.faults.specs.Check.{badStart, badBlockMultiplier, badCell, misplaced, badSquare, codesIn, blockCodes}
+use Rattle.faults.specs.Starts.{Starts}
+use Rattle.faults.proofs.Partition.{block-lt, start-le-end}
 
 -- 16
 before : List ℕ → ℕ → Bool
