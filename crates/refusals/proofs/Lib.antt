@@ -1,3 +1,6 @@
 -- What the proofs of the functions cite, by topic.
 pub mod Among
 mod Chains
+mod Some
+mod Bits
+mod Marking

@@ -1,10 +1,11 @@
 // Codes equal to an earlier one (refusal 5).
-ghost use Prim.Native.Nat.{_≤_};
+ghost use Prim.Native.Nat.{_<_, _≤_};
 ghost use mathlib.Core.Path.{_≡_};
 ghost use lib.ListN.{length, take};
 ghost use Rattle.table.specs.Answers.{firstOf};
-ghost use Rattle.refusals.specs.Repeats.{mostPairs, among, repeated};
+ghost use Rattle.refusals.specs.Repeats.{mostPairs, among, repeated, some};
 ghost use Rattle.refusals.specs.Chains.{Chain};
+ghost use Rattle.refusals.specs.Marks.{Met};
 
 // The most pairs of a list, for which the local arrays have room. It is as well the number of chains.
 const ROOM: usize = 2048;
@@ -27,7 +28,7 @@ fn in_chain(codes: &[u32], next: &[u16; ROOM], from: usize, a: u32) -> bool
 }
 
 // The first code that is equal to an earlier one, or the list's length. Codes are compared along chains of equal residues only.
-pub fn first_repeated(codes: &[u32]) -> usize
+fn first_by_chains(codes: &[u32]) -> usize
     requires { ⌜ length (now codes) ≤ mostPairs ⌝ }
     ensures { λ r. ⌜ r ≡ firstOf (length (now (codes .entry))) (repeated (now (codes .entry))) ⌝ }
 {
@@ -47,4 +48,69 @@ pub fn first_repeated(codes: &[u32]) -> usize
         i = after;
     }
     i
+}
+
+// Whether the code with index i is equal to an earlier one: all of them are compared, without a branch.
+fn is_repeated(codes: &[u32], i: usize) -> bool
+    requires { ⌜ i < length (now codes) ⌝ }
+    ensures { λ r. ⌜ r ≡ repeated (now (codes .entry)) i ⌝ }
+{
+    let a = codes[i];
+    let mut met = false;
+    let mut j = 0;
+    while j < i {
+        met = met | (a == codes[j]);
+        j += 1;
+    }
+    met
+}
+
+// Whether some code is equal to an earlier one, for a short list.
+fn some_repeated(codes: &[u32]) -> bool
+    ensures { λ r. ⌜ r ≡ some (length (now (codes .entry))) (repeated (now (codes .entry))) ⌝ }
+{
+    let mut met = false;
+    let mut i = 0;
+    while i < codes.len() {
+        met = met | is_repeated(codes, i);
+        i += 1;
+    }
+    met
+}
+
+// Whether some code shares its residue mod 65,536 with an earlier one, by a bit for each residue. Where none does, no code is repeated.
+fn some_met(codes: &[u32]) -> bool
+    ensures { λ r. ⌜ Met (now (codes .entry)) r ⌝ }
+{
+    let mut seen = [0u64; 1024];
+    let mut met: u64 = 0;
+    let mut i = 0;
+    while i < codes.len() {
+        let residue = (codes[i] as usize) % 65536;
+        let bit = 1u64 << (residue % 64);
+        let before = seen[residue / 64];
+        met = met | (before & bit);
+        seen[residue / 64] = before | bit;
+        i += 1;
+    }
+    met != 0
+}
+
+// The first code that is equal to an earlier one, or the list's length. Whether there is one is told without a branch on any code; it is looked
+// for only then.
+pub fn first_repeated(codes: &[u32]) -> usize
+    requires { ⌜ length (now codes) ≤ mostPairs ⌝ }
+    ensures { λ r. ⌜ r ≡ firstOf (length (now (codes .entry))) (repeated (now (codes .entry))) ⌝ }
+{
+    let n = codes.len();
+    if n <= 32 {
+        if !some_repeated(codes) {
+            return n;
+        }
+        return first_by_chains(codes);
+    }
+    if !some_met(codes) {
+        return n;
+    }
+    first_by_chains(codes)
 }

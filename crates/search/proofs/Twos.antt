@@ -1,6 +1,7 @@
 -- A block of two codes in its four cells: a multiplier separates them if their hashes differ.
 -- Assumes nothing.
-use Prim.Native.Nat.{ℕ, _+_, _*_}
+use Prim.Native.Nat.{ℕ, _+_, _*_, _<_}
+use native.Mathlib.Decide.{decLt}
 use native.Mathlib.Omega.{arith}
 use mathlib.Core.Bool.{Bool, true, false}
 use mathlib.Core.List.{List, [], _∷_}
@@ -30,6 +31,25 @@ two-together p q (a ∷ b ∷ c ∷ s) two = absurd (omega arith)
 module _ {p : ℕ} {block cells : List ℕ} (u : Unplaced p block cells) (two : length block ≡ 2) where
   pub four : length cells ≡ 4
   four = unplaced-square u ∙ ap (λ (m : ℕ). m * m) two
+
+  -- two codes are below p, and so is 2
+  pub two-below : (getD block 0 0 < p) × ((getD block 1 0 < p) × (2 < p))
+  two-below =
+      let valid : Codes p block = u .codes .valid in
+      let a : getD block 0 0 < p = valid .below 0 (omega arith) in
+      let b : getD block 1 0 < p = valid .below 1 (omega arith) in (
+        a,
+        (
+          b,
+          elim (decLt 2 p) [
+            | yes l ↦ l
+            | no ge ↦
+                absurd
+                (valid .different 0 1 (omega arith) (omega arith)
+                (omega (arith, valid .positive 0 (omega arith), valid .positive 1 (omega arith))))
+          ],
+        ),
+      )
 
   cells-are : (q : ℕ) → together p q (length cells) block ≡ indicator (meet p block q)
   cells-are q = ap (λ (w : ℕ). together p q w block) four ∙ two-together p q block two

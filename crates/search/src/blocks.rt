@@ -28,7 +28,7 @@ fn count_cells(
     blocks: &mut [u32],
     counts: &mut [u32],
 ) -> Count
-    requires { ⌜ Countable p (now codes) (now blocks) (now counts) ⌝ }
+    requires { ⌜ Countable p k (now codes) (now blocks) (now counts) ⌝ }
     requires { ⌜ Ready p (length (now codes)) reciprocal ⌝ }
     ensures { λ r. ⌜ Counted p k (now (codes .entry)) r (now (blocks .exit)) (now (counts .exit)) ⌝ }
 {
@@ -39,7 +39,7 @@ fn count_cells(
     let mut i = codes.len();
     while 0 < i {
         i -= 1;
-        let t = hash::hash_by(p, k, n, reciprocal, codes[i]);
+        let t = hash::hash_below_by(p, k, n, reciprocal, codes[i]);
         blocks[i] = t;
         let m = counts[t as usize];
         c += 2 * m + 1;

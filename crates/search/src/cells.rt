@@ -4,7 +4,7 @@ ghost use mathlib.Core.Path.{_≡_};
 ghost use mathlib.Core.Bool.{cond};
 ghost use lib.Dec.{eqb};
 ghost use lib.ListN.{length, replicate};
-ghost use Rattle.hash.specs.Hash.{hashOf};
+ghost use Rattle.hash.specs.Hash.{hashOf, Codes};
 ghost use Rattle.hash.specs.Contract.{Ready};
 ghost use Rattle.search.specs.Cells.{Unplaced, Placing, Tried, LeastCells};
 
@@ -17,13 +17,13 @@ pub fn one(test: bool) -> u32
 
 // Takes the codes from `from` on out of their w cells again, which are then all 0.
 fn undo(p: u32, q: u32, w: u32, reciprocal: u64, block: &[u32], from: usize, cells: &mut [u32])
-    requires { ⌜ (0 < p) × Ready p w reciprocal ⌝ }
+    requires { ⌜ Codes p (now block) × ((q < p) × Ready p w reciprocal) ⌝ }
     requires { ⌜ Placing p q w (now block) from (now cells) ⌝ }
     ensures { λ _. ⌜ now (cells .exit) ≡ replicate w 0 ⌝ }
 {
     let mut i = from;
     while i < block.len() {
-        let t = hash::hash_by(p, q, w, reciprocal, block[i]) as usize;
+        let t = hash::hash_below_by(p, q, w, reciprocal, block[i]) as usize;
         cells[t] = 0;
         i += 1;
     }
@@ -33,14 +33,14 @@ fn undo(p: u32, q: u32, w: u32, reciprocal: u64, block: &[u32], from: usize, cel
 // are all 0 again. The codes are taken from the last, so that a code is tested against those after it, as the definitions do.
 fn place_block(p: u32, q: u32, reciprocal: u64, block: &[u32], cells: &mut [u32]) -> bool
     requires { ⌜ Unplaced p (now block) (now cells) ⌝ }
-    requires { ⌜ Ready p (length (now cells)) reciprocal ⌝ }
+    requires { ⌜ (q < p) × Ready p (length (now cells)) reciprocal ⌝ }
     ensures { λ r. ⌜ Tried p q (now (block .entry)) (now (cells .entry)) (now (cells .exit)) r ⌝ }
 {
     let w = cells.len() as u32;
     let mut i = block.len();
     while 0 < i {
         let a = block[i - 1];
-        let t = hash::hash_by(p, q, w, reciprocal, a) as usize;
+        let t = hash::hash_below_by(p, q, w, reciprocal, a) as usize;
         if cells[t] != 0 {
             undo(p, q, w, reciprocal, block, i, cells);
             return false;
@@ -71,10 +71,10 @@ fn cells_multiplier(p: u32, block: &[u32], cells: &mut [u32]) -> u32
 
 // Whether q puts two codes in one of four cells.
 fn collide(p: u32, q: u32, a: u32, b: u32) -> bool
-    requires { ⌜ 0 < p ⌝ }
+    requires { ⌜ (q < p) × ((a < p) × (b < p)) ⌝ }
     ensures { λ r. ⌜ r ≡ eqb (hashOf p q 4 a) (hashOf p q 4 b) ⌝ }
 {
-    hash::residue(p, q, a) % 4 == hash::residue(p, q, b) % 4
+    hash::residue_below(p, q, a) % 4 == hash::residue_below(p, q, b) % 4
 }
 
 // The same for a block of two codes: nearly all have one of the first three multipliers, which is worked out without a branch.
@@ -91,8 +91,8 @@ fn two_multiplier(p: u32, block: &[u32], cells: &mut [u32]) -> u32
     while collide(p, q, a, b) {
         q += 1;
     }
-    let x = hash::residue(p, q, a) % 4;
-    let y = hash::residue(p, q, b) % 4;
+    let x = hash::residue_below(p, q, a) % 4;
+    let y = hash::residue_below(p, q, b) % 4;
     cells[y as usize] = b;
     cells[x as usize] = a;
     q

@@ -22,31 +22,37 @@ loop-holds c =
     let start = called .before .before .before .before .before in
     (counting-start (start .pre .0 .some) (start .pre .0 .sized .0) (start .pre .0 .sized .1) (called .clear .ensures), (refl, refl))
 
+hash-below-by-requires : tie.Need-hash-below-by-requires Inv-loop μ-loop
+hash-below-by-requires c κs =
+    let test = c .before in
+    let start = test .before .before .before .before .before .before .before .before .before in
+    (start .pre .0 .multiplier, (start .pre .0 .below _ (omega arith), start .pre .1))
+
 -- the count of the code's block, as it is read
 load :
     (c : tie.After-slice-known4 Inv-loop μ-loop)
-    → getD (c .before .before .before .before .loop .counts) (c .before .hash-by .result) 0
+    → getD (c .before .before .before .before .loop .counts) (c .before .hash-below-by .result) 0
     ≤ length (c .before .before .before .before .before .before .before .before .before .before .before .before .args .codes .now)
 load c =
     let called = c .before in
     let test = called .before .before in
-    counting-load (test .before .loop .inv .0) (test .loop-test .taken) (called .hash-by .result) (called .hash-by .ensures .value)
-    (called .hash-by .ensures .range)
+    counting-load (test .before .loop .inv .0) (test .loop-test .taken) (called .hash-below-by .result) (called .hash-below-by .ensures .value)
+    (called .hash-below-by .ensures .range)
 
 returns : tie.Need-returns Inv-loop μ-loop
 returns c =
     let called = c .before .before in
     let test = called .before .before in
     over-leaves
-    (counting-over (test .before .loop .inv .0) (test .loop-test .taken) (called .hash-by .result) (called .hash-by .ensures .value)
-    (called .hash-by .ensures .range) (omega arith))
+    (counting-over (test .before .loop .inv .0) (test .loop-test .taken) (called .hash-below-by .result) (called .hash-below-by .ensures .value)
+    (called .hash-below-by .ensures .range) (omega arith))
 
 loop-again : tie.Need-loop-again Inv-loop μ-loop
 loop-again c =
     let called = c .before .before in
     let test = called .before .before in (
-      counting-more (test .before .loop .inv .0) (test .loop-test .taken) (called .hash-by .result) (called .hash-by .ensures .value)
-          (called .hash-by .ensures .range) (omega arith),
+      counting-more (test .before .loop .inv .0) (test .loop-test .taken) (called .hash-below-by .result) (called .hash-below-by .ensures .value)
+          (called .hash-below-by .ensures .range) (omega arith),
       (simp length-set (test .before .loop .inv .1 .0), simp length-set (test .before .loop .inv .1 .1)),
     )
 
@@ -72,7 +78,7 @@ count-cells-spec =
     (λ c. omega arith)
     (λ c. search needs)
     (λ c. omega arith)
-    (λ c κs. (omega arith, search needs))
+    hash-below-by-requires
     (λ c. search needs)
     (λ c. omega arith)
     (λ c. search needs)

@@ -14,6 +14,17 @@ Inv-loop p q reciprocal block cells₀ w i₀ cells i = Placing p q w block i ce
 abbrev μ-loop : tie.MeasureT-loop
 μ-loop p q reciprocal block cells₀ w i₀ cells i = i
 
+hash-below-by-requires : tie.Need-hash-below-by-requires Inv-loop μ-loop
+hash-below-by-requires c κs =
+    let start = c .before .before .before .before .before in
+    (start .pre .1 .0, (start .pre .0 .codes .valid .below _ (omega arith), start .pre .1 .1))
+
+undo-requires : tie.Need-undo-requires Inv-loop μ-loop
+undo-requires c κs =
+    let h = c .before .before .before .before .before .before in
+    let start = h .before .before .before in
+    ((start .pre .0 .codes .valid, start .pre .1), h .loop .inv)
+
 returns : tie.Need-returns Inv-loop μ-loop
 returns c =
     let undone = c .before .before in
@@ -23,8 +34,8 @@ returns c =
     let h = test .before in
     let start = h .before .before .before in
     tried-stop (start .pre .0)
-    (placing-stop (h .loop .inv) (start .pre .0 .codes .valid) (test .loop-test .taken) (called .hash-by .result)
-    (called .hash-by .ensures .value) (called .hash-by .ensures .range) (found .if1 .taken))
+    (placing-stop (h .loop .inv) (start .pre .0 .codes .valid) (test .loop-test .taken) (called .hash-below-by .result)
+    (called .hash-below-by .ensures .value) (called .hash-below-by .ensures .range) (found .if1 .taken))
     (undone .undo .ensures)
 
 loop-again : tie.Need-loop-again Inv-loop μ-loop
@@ -32,8 +43,8 @@ loop-again c =
     let called = c .before .before in
     let test = called .before .before in
     let h = test .before in
-    placing-more (h .loop .inv) (h .before .before .before .pre .0 .codes .valid) (test .loop-test .taken) (called .hash-by .result)
-    (called .hash-by .ensures .value) (called .hash-by .ensures .range) (c .if1 .left)
+    placing-more (h .loop .inv) (h .before .before .before .pre .0 .codes .valid) (test .loop-test .taken) (called .hash-below-by .result)
+    (called .hash-below-by .ensures .value) (called .hash-below-by .ensures .range) (c .if1 .left)
 
 returns-2 : tie.Need-returns-2 Inv-loop μ-loop
 returns-2 c = let h = c .before in tried-all (h .before .before .before .pre .0) (h .loop .inv) (c .loop-test .left)
@@ -49,11 +60,11 @@ place-block-spec =
     (λ c. omega arith)
     (λ c. search needs)
     (λ c. omega arith)
-    (λ c κs. (omega arith, search needs))
+    hash-below-by-requires
     (λ c. search needs)
     (λ c. search needs)
     (λ c. omega arith)
-    (λ c κs. search needs)
+    undo-requires
     (λ c. omega arith)
     returns
     (λ c. search needs)
