@@ -1,15 +1,15 @@
 -- What the proofs of this crate, and of those above it, have in common: the facts that decide a definition's tests, and what sizes that pass tell.
 -- Assumes nothing.
 use Prim.Native.Nat.{ℕ, _-_, _≤_}
-use mathlib.Core.Bool.{Bool, true, false, _||_, true≢false}
+use mathlib.Core.Bool.{Bool, true, false, cond, _||_, true≢false}
 use mathlib.Core.List.{List}
-use mathlib.Core.Path.{_≡_, refl}
+use mathlib.Core.Path.{_≡_, refl, sym}
 use native.Mathlib.Omega.{arith}
-use borrow.Author.Tests.{le-ltb, lt-ltb, le-leb, lt-leb, eq-eqb, ne-eqb, ltb-false}
+use borrow.Author.Tests.{le-ltb, lt-ltb, le-leb, lt-leb, eq-eqb, ne-eqb, ltb-false, eqb-false, not-true}
 use Rattle.table.specs.Answers.{outside}
 use Rattle.table.specs.Words.{codeCount, multiplier}
 use Rattle.table.specs.Lookup.{tooManyCodes, tooManyCells, badMultiplier, tooShort, badSizes}
-use Rattle.table.specs.Sized.{Sized}
+use Rattle.table.specs.Sized.{Sized, Blocks, hasBlocks}
 
 -- each test of a definition, from the fact that decides it
 pub ruleset tests = (le-ltb, lt-ltb, le-leb, lt-leb, eq-eqb, ne-eqb)
@@ -44,3 +44,19 @@ sized e =
     let cells = or-false _ _ (codes .1) in
     let k = or-false _ _ (cells .1) in
     sized-by (codes .0) (cells .0) (k .0) (k .1)
+
+-- where a lookup comes to a block
+kept : (b x : Bool) → cond b false x ≡ true → (b ≡ false) × (x ≡ true)
+kept true x e = absurd (true≢false (sym e))
+kept false x e = (refl, e)
+
+pub has-blocks : {p limit : ℕ} {words : List ℕ} → hasBlocks p limit words ≡ true → Blocks p limit words
+unfolding hasBlocks
+has-blocks {p} {limit} {words} e =
+    let three = kept _ _ e in
+    let some = kept _ _ (three .1) in
+    record {
+      three = ltb-false _ _ (three .0);
+      some = let h : codeCount words ≡ 0 → ⊥ = eqb-false _ _ (some .0) in omega arith;
+      sizes = not-true _ (some .1);
+    }

@@ -3,12 +3,16 @@
 use Prim.Native.Nat.{ℕ, _+_, max, _<_, _≤_}
 use mathlib.Core.List.{List, [], _∷_}
 use mathlib.Core.Path.{_≡_}
+use mathlib.Core.Bool.{false}
+use mathlib.Core.Logic.{inl, inr}
 use native.Mathlib.Numerals.{add-one}
+use native.Mathlib.Omega.{arith}
 use lib.ListN.{length, drop, getD, drop-of-length-le}
 use lib.Seq.{drop-cons}
 use denote.Enum.Declared.{tagOf}
 use types.Run.{OneOf, miss}
 use Rattle.table.specs.Answers.{given}
+use Rattle.table.specs.Sized.{hasBlocks}
 use Rattle.table.specs.Lookup.{lookupOf}
 use Rattle.table.specs.Panel.{walkOf}
 use Rattle.table.specs.Found.{foundOf}
@@ -16,6 +20,7 @@ use Rattle.table.specs.Fired.{endedOf}
 use Rattle.table.specs.declared.lookup.Found.{Found}
 use Rattle.table.specs.declared.lookup.Found.the-variants.{Schedule, Absent, CodeOutOfRange, TooFewWords, BadSizes, BadBlock}
 use Rattle.table.proofs.lookup.Found.{the-type}
+use Rattle.table.proofs.Steps.{no-blocks}
 
 module _ (p limit : ℕ) (words codes : List ℕ) (i largest : ℕ) where
   pub walk-over : length codes ≤ i → walkOf p limit words (drop i codes) i largest ≡ given (largest ∷ [])
@@ -38,3 +43,12 @@ module _ (p limit : ℕ) (words codes : List ℕ) (i largest : ℕ) where
   walk-ends h TooFewWords k e = rw (drop-cons codes i 0 h, ← e, walkOf)
   walk-ends h BadSizes k e = rw (drop-cons codes i 0 h, ← e, walkOf)
   walk-ends h BadBlock k e = rw (drop-cons codes i 0 h, ← e, walkOf)
+
+-- without blocks the first code ends it
+pub walk-unread :
+    (p limit : ℕ) (words codes : List ℕ) → hasBlocks p limit words ≡ false → 0 < length codes
+    → walkOf p limit words codes 0 0 ≡ endedOf (lookupOf p limit words (getD codes 0 0)) 0
+unfolding walkOf
+walk-unread p limit words [] e some = absurd (omega arith)
+walk-unread p limit words (a ∷ codes) e some =
+    elim (no-blocks p limit words a e) [ inl none ↦ rw (none, walkOf) | inr (number, bad) ↦ rw (bad, walkOf) ]

@@ -1,9 +1,12 @@
 -- The sizes of a table where conditions 12 to 15 of document 01 are ruled out, in propositions, and what the code promises of a number.
 use Prim.Native.Nat.{ℕ, _+_, _*_, _<_, _≤_}
+use mathlib.Core.Bool.{Bool, false, cond, not}
 use mathlib.Core.List.{List}
 use mathlib.Core.Path.{_≡_}
+use lib.Dec.{eqb, ltb}
 use lib.ListN.{length}
 use Rattle.table.specs.Words.{codeCount, cellCount, multiplier, total}
+use Rattle.table.specs.Lookup.{badSizes}
 
 pub record Sized (p limit : ℕ) (words : List ℕ) : Type 0 where
   -- 12
@@ -26,6 +29,21 @@ pub record Block (words : List ℕ) (j : ℕ) : Type 0 where
 pub record Cell (words : List ℕ) (i : ℕ) : Type 0 where
   pub whole : total words ≤ length words
   pub below : i < cellCount words
+
+-- the words between two cells of a table that is whole
+pub record Part (words : List ℕ) (start end : ℕ) : Type 0 where
+  pub whole : total words ≤ length words
+  pub rises : start ≤ end
+  pub below : end ≤ cellCount words
+
+-- a table that is whole, of which none of 12 to 15 holds, and that has blocks
+pub record Blocks (p limit : ℕ) (words : List ℕ) : Type 0 where
+  pub three : 3 ≤ length words
+  pub some : 0 < codeCount words
+  pub sizes : badSizes p limit words ≡ false
+
+unfoldable pub hasBlocks : ℕ → ℕ → List ℕ → Bool
+hasBlocks p limit words = cond (ltb (length words) 3) false (cond (eqb (codeCount words) 0) false (not (badSizes p limit words)))
 
 -- r is the number x, which is below the bound
 pub record Within (x bound r : ℕ) : Type 0 where

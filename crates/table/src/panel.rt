@@ -1,12 +1,21 @@
 // The schedule of a panel, a batch of codes fired together (document 01, "Panel").
-ghost use Prim.Native.Nat.{max, _≤_};
+ghost use Prim.Native.Nat.{_≤_};
 ghost use mathlib.Core.Path.{_≡_};
 ghost use lib.ListN.{length};
+ghost use Rattle.hash.specs.Contract.{Ready};
+ghost use Rattle.table.specs.Words.{codeCount};
+ghost use Rattle.table.specs.Lookup.{lookupOf};
+ghost use Rattle.table.specs.Sized.{Blocks};
 ghost use Rattle.table.specs.Panel.{walkOf, panelOf};
 ghost use Rattle.table.specs.Found.{foundOf};
 ghost use Rattle.table.specs.Fired.{firedOf, endedOf};
 use crate::lookup::Found;
+use crate::lookup::in_block;
 use crate::lookup::lookup_at;
+use crate::words::has_blocks;
+use crate::words::larger;
+use crate::words::outside;
+use crate::words::wide;
 
 pub enum Fired {
     Schedule(u32),
@@ -18,15 +27,6 @@ pub enum Fired {
     NoCodes,
     // 36
     TooManyCodes,
-}
-
-fn larger(a: u32, b: u32) -> u32
-    ensures { λ r. ⌜ r ≡ max a b ⌝ }
-{
-    if a < b {
-        return b;
-    }
-    a
 }
 
 // How a lookup that found no schedule ends the panel at index i.
@@ -43,15 +43,28 @@ fn ended(f: Found, i: u32) -> Fired
     }
 }
 
+// The answer for one code of a panel: the sizes are tested before, and the number of blocks is ready as a divisor.
+fn lookup_in(p: u32, limit: u32, words: &[u32], reciprocal: u64, code: u32) -> Found
+    requires { ⌜ (1 ≤ p) × (Blocks p limit (now words) × Ready p (codeCount (now words)) reciprocal) ⌝ }
+    ensures { λ r. ⌜ foundOf r ≡ lookupOf p limit (now (words .entry)) code ⌝ }
+{
+    if outside(1, p - 1, code) {
+        return Found::CodeOutOfRange;
+    }
+    let j = wide(hash::hash_by(p, words[2], words[0], reciprocal, code));
+    in_block(p, words, code, j)
+}
+
 // The codes looked up in their order: the first one absent or refused ends it, otherwise the largest schedule found.
 fn walk(p: u32, limit: u32, words: &[u32], codes: &[u32]) -> Fired
-    requires { ⌜ (1 ≤ p) × (length (now codes) ≤ 64) ⌝ }
+    requires { ⌜ (1 ≤ p) × (Blocks p limit (now words) × (length (now codes) ≤ 64)) ⌝ }
     ensures { λ r. ⌜ firedOf r ≡ walkOf p limit (now (words .entry)) (now (codes .entry)) 0 0 ⌝ }
 {
+    let reciprocal = hash::reciprocal(p, words[0]);
     let mut largest: u32 = 0;
     let mut i: usize = 0;
     while i < codes.len() {
-        let f = lookup_at(p, limit, words, codes[i]);
+        let f = lookup_in(p, limit, words, reciprocal, codes[i]);
         let Found::Schedule(s) = f else {
             return ended(f, i as u32);
         };
@@ -71,6 +84,9 @@ pub fn panel_at(p: u32, limit: u32, words: &[u32], codes: &[u32]) -> Fired
     }
     if 64 < codes.len() {
         return Fired::TooManyCodes;
+    }
+    if !has_blocks(p, limit, words) {
+        return ended(lookup_at(p, limit, words, codes[0]), 0);
     }
     walk(p, limit, words, codes)
 }

@@ -1,18 +1,27 @@
 // The words of a table, each test and each place of document 01 by itself, for lookup here and for the crates above. The sums are taken in
 // usize, which holds them for any words.
-ghost use Prim.Native.Nat.{_<_, _≤_};
+ghost use Prim.Native.Nat.{max, _<_, _≤_};
 ghost use mathlib.Core.Path.{_≡_};
 ghost use lib.ListN.{length};
 ghost use Rattle.table.specs.Answers.{outside};
 ghost use Rattle.table.specs.Words.{codeCount, total, blockStart, blockEnd, blockMultiplier, cellCode, cellSchedule, blockOf, cellIn};
 ghost use Rattle.table.specs.Lookup.{tooManyCodes, tooManyCells, badMultiplier, tooShort, badSizes};
-ghost use Rattle.table.specs.Sized.{Block, Cell, Within};
+ghost use Rattle.table.specs.Sized.{Block, Cell, Within, hasBlocks};
 
 // A word as an index or a part of a sum.
 pub fn wide(x: u32) -> usize
     ensures { λ r. ⌜ Within x 4294967296 r ⌝ }
 {
     x as usize
+}
+
+pub fn larger(a: u32, b: u32) -> u32
+    ensures { λ r. ⌜ r ≡ max a b ⌝ }
+{
+    if a < b {
+        return b;
+    }
+    a
 }
 
 // x is not from low to high.
@@ -82,6 +91,20 @@ pub fn bad_sizes(p: u32, limit: u32, words: &[u32]) -> bool
         return true;
     }
     too_short(words)
+}
+
+// Whether a lookup comes to a block: three words, n above 0, and none of 12 to 15.
+pub fn has_blocks(p: u32, limit: u32, words: &[u32]) -> bool
+    requires { ⌜ 1 ≤ p ⌝ }
+    ensures { λ r. ⌜ r ≡ hasBlocks p limit (now (words .entry)) ⌝ }
+{
+    if words.len() < 3 {
+        return false;
+    }
+    if words[0] == 0 {
+        return false;
+    }
+    !bad_sizes(p, limit, words)
 }
 
 // Where block j starts, counted in cells.

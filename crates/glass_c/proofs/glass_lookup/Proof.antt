@@ -4,7 +4,7 @@ use Rattle.glass_c.proofs.glass_lookup.Statement.{statement}
 use Rattle.glass_c.proofs.glass_lookup.Tie as tie
 
 returns : tie.Need-returns
-returns c = rw (c .before .lookup .ensures) at (c .shown .ensures)
+returns c = rw (c .before .lookup-packed .ensures) at (c .shown .ensures)
 
 pub glass-lookup-spec : {M : Type 1} → statement M
 glass-lookup-spec = tie.close (tie.spec (λ c κs. search needs) (λ c κs. search needs) returns)

@@ -12,11 +12,11 @@ use Rattle.table.proofs.panel.walk.Statement.{statement}
 use Rattle.table.proofs.panel.walk.Tie as tie
 
 abbrev Inv-loop : tie.InvT-loop
-Inv-loop p limit words codes largest₀ i₀ largest i =
+Inv-loop p limit words codes reciprocal largest₀ i₀ largest i =
     (i ≤ length codes) × (walkOf p limit words codes 0 0 ≡ walkOf p limit words (drop i codes) i largest)
 
 abbrev μ-loop : tie.MeasureT-loop
-μ-loop p limit words codes largest₀ i₀ largest i = length codes - i
+μ-loop p limit words codes reciprocal largest₀ i₀ largest i = length codes - i
 
 loop-holds : tie.Need-loop-holds Inv-loop μ-loop
 loop-holds c = search needs
@@ -26,7 +26,7 @@ returns c =
     let found = c .before .before in
     let turn = found .before .before in
     c .ended .ensures ∙
-    sym (turn .before .loop .inv .1 ∙ walk-ends _ _ _ _ _ _ (turn .loop-test .taken) (found .lookup-at .result) (c .before .match .keys2) (found .lookup-at .ensures))
+    sym (turn .before .loop .inv .1 ∙ walk-ends _ _ _ _ _ _ (turn .loop-test .taken) (found .lookup-in .result) (c .before .match .keys2) (found .lookup-in .ensures))
 
 loop-again : tie.Need-loop-again Inv-loop μ-loop
 loop-again c =
@@ -36,7 +36,7 @@ loop-again c =
       omega arith,
       rw (c .larger .ensures)
           (turn .before .loop .inv .1 ∙
-          walk-on _ _ _ _ _ _ (turn .loop-test .taken) _ (sym (found .lookup-at .ensures) ∙ ap foundOf (schedule .f .given .1))),
+          walk-on _ _ _ _ _ _ (turn .loop-test .taken) _ (sym (found .lookup-in .ensures) ∙ ap foundOf (schedule .f .given .1))),
     )
 
 returns-2 : tie.Need-returns-2 Inv-loop μ-loop
@@ -48,6 +48,8 @@ walk-spec =
     (tie.spec
     Inv-loop
     μ-loop
+    (λ c. search needs)
+    (λ c κs. search needs)
     loop-holds
     (λ c. search needs)
     (λ c. search needs)
