@@ -24,7 +24,7 @@ pub extern "C" fn glass_check(words: &[u32]) -> GlassAnswer
 pub extern "C" fn glass_lookup(words: &[u32], code: u32) -> GlassAnswer
     ensures { λ r. ⌜ Shown (lookupOf 65537 2048 (now (words .entry)) code) r ⌝ }
 {
-    shown::found::shown(table::packed::lookup_packed(words, code))
+    shown::found::shown(packed::lookup_packed(words, code))
 }
 
 #[no_mangle]

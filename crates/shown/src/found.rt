@@ -1,5 +1,5 @@
 // The answer of a lookup, for C: the halves of the word that it comes in.
-ghost use Rattle.table.specs.Packed.{unpacked};
+ghost use Rattle.packed.specs.Packed.{unpacked};
 ghost use Rattle.shown.specs.Numbers.{Shown};
 use crate::GlassAnswer;
 

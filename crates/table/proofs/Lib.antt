@@ -5,7 +5,6 @@ pub mod First
 pub mod Refusals
 pub mod Walk
 pub mod Steps
-pub mod Probing
 -- The table of a list: lists by their function, the words before the cells, what each cell holds, the multipliers that are taken,
 -- the codes' own cells, and what is read from the words.
 pub mod Tabulate

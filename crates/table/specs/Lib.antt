@@ -4,7 +4,6 @@ pub mod Words
 pub mod TwoLevel
 pub mod Lookup
 pub mod Panel
-pub mod Packed
 pub mod Sized
 pub mod Found
 pub mod Fired

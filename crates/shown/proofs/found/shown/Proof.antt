@@ -7,7 +7,7 @@ use borrow.Author.Needs.{needs}
 use borrow.Author.Tests.{eqb-true}
 use lib.Dec.{eqb}
 use Rattle.hash.proofs.Indicators.{true-or-false}
-use Rattle.table.specs.Packed.{unpacked}
+use Rattle.packed.specs.Packed.{unpacked}
 use Rattle.shown.specs.Numbers.{numberOf, valueOf}
 use Rattle.shown.proofs.found.shown.Statement.{statement}
 use Rattle.shown.proofs.found.shown.Tie as tie

@@ -1,15 +1,15 @@
--- `table::packed::lookup_packed_at` meets its contract, by what the plain lookup and the block's answer give.
+-- `packed::lookup_packed_at` meets its contract, by what the plain lookup and the block's answer give.
 -- Assumes nothing.
 use mathlib.Core.Path.{_∙_, sym}
 use native.Mathlib.Omega.{arith}
 use borrow.Author.Needs.{needs}
 use borrow.Author.Tests.{not-false}
 use Rattle.table.specs.Lookup.{lookupOf}
-use Rattle.table.specs.Packed.{unpacked}
+use Rattle.packed.specs.Packed.{unpacked}
 use Rattle.table.proofs.Laws.{sized, has-blocks}
 use Rattle.table.proofs.Steps.{lookup-block}
-use Rattle.table.proofs.packed.lookup_packed_at.Statement.{statement}
-use Rattle.table.proofs.packed.lookup_packed_at.Tie as tie
+use Rattle.packed.proofs.lookup_packed_at.Statement.{statement}
+use Rattle.packed.proofs.lookup_packed_at.Tie as tie
 
 returns : tie.Need-returns
 unfolding lookupOf unpacked

@@ -11,11 +11,11 @@ use borrow.Author.Tests.{eq-eqb, ne-eqb}
 use lib.Dec.{eqb}
 use lib.ListN.{getD}
 use Rattle.hash.specs.Hash.{hashOf}
 use Rattle.table.specs.Answers.{Answer, given, absent, refuse, outside}
 use Rattle.table.specs.Words.{codeCount, cellCount, blockStart, blockEnd, blockMultiplier, cellIn}
 use Rattle.table.specs.Lookup.{inCell, inBlock}
-use Rattle.table.specs.Packed.{unpacked, held, cellAt}
+use Rattle.packed.specs.Packed.{unpacked, held, cellAt}
 use Rattle.table.proofs.Steps.{block-none, block-cell}
 
 -- a schedule in the upper half
 pub unpacked-given : (s : ℕ) → unpacked (s * 4294967296) ≡ given (s ∷ [])

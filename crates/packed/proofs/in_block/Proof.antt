@@ -1,14 +1,14 @@
--- `table::packed::in_block` meets its contract: its tests are the definition's, but for the order of the block without cells.
+-- `packed::in_block` meets its contract: its tests are the definition's, but for the order of the block without cells.
 -- Assumes nothing.
 use mathlib.Core.Path.{_∙_, sym}
 use native.Mathlib.Omega.{arith}
 use borrow.Author.Needs.{needs}
 use Rattle.table.specs.Lookup.{inBlock}
-use Rattle.table.specs.Packed.{unpacked}
+use Rattle.packed.specs.Packed.{unpacked}
 use Rattle.table.proofs.Laws.{tests}
-use Rattle.table.proofs.Probing.{unread, probed}
-use Rattle.table.proofs.packed.in_block.Statement.{statement}
-use Rattle.table.proofs.packed.in_block.Tie as tie
+use Rattle.packed.proofs.Probing.{unread, probed}
+use Rattle.packed.proofs.in_block.Statement.{statement}
+use Rattle.packed.proofs.in_block.Tie as tie
 
 returns : tie.Need-returns
 unfolding inBlock unpacked

@@ -5,21 +5,21 @@ ghost use Prim.Native.Nat.{_+_, _*_, _-_, _≤_};
 ghost use mathlib.Core.Bool.{cond};
 ghost use mathlib.Core.Path.{_≡_};
 ghost use lib.ListN.{getD};
 ghost use Rattle.table.specs.Words.{codeCount, cellCount};
 ghost use Rattle.table.specs.Lookup.{inBlock, lookupOf};
 ghost use Rattle.table.specs.Sized.{Block, Part, Within};
 ghost use Rattle.table.specs.Found.{foundOf};
-ghost use Rattle.table.specs.Packed.{unpacked, held, cellAt};
-use crate::lookup::Found;
-use crate::lookup::lookup_at;
-use crate::words::block_end;
-use crate::words::block_multiplier;
-use crate::words::block_of;
-use crate::words::block_start;
-use crate::words::has_blocks;
-use crate::words::larger;
-use crate::words::outside;
-use crate::words::wide;
+ghost use Rattle.packed.specs.Packed.{unpacked, held, cellAt};
+use table::lookup::Found;
+use table::lookup::lookup_at;
+use table::words::block_end;
+use table::words::block_multiplier;
+use table::words::block_of;
+use table::words::block_start;
+use table::words::has_blocks;
+use table::words::larger;
+use table::words::outside;
+use table::words::wide;
 
 fn packed(f: Found) -> u64
     ensures { λ r. ⌜ unpacked r ≡ foundOf f ⌝ }

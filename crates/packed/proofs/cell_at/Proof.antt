@@ -1,13 +1,13 @@
--- `table::packed::cell_at` meets its contract: a hash among m places, of which there is at least one where it counts.
+-- `packed::cell_at` meets its contract: a hash among m places, of which there is at least one where it counts.
 -- Assumes nothing.
 use Prim.Native.Nat.{max, _≤_}
 use mathlib.Core.Path.{_≡_}
 use native.Mathlib.Omega.{arith}
 use borrow.Author.Needs.{needs}
 use borrow.Author.Tests.{eq-eqb, ne-eqb}
-use Rattle.table.specs.Packed.{cellAt}
-use Rattle.table.proofs.packed.cell_at.Statement.{statement}
-use Rattle.table.proofs.packed.cell_at.Tie as tie
+use Rattle.packed.specs.Packed.{cellAt}
+use Rattle.packed.proofs.cell_at.Statement.{statement}
+use Rattle.packed.proofs.cell_at.Tie as tie
 
 returns : tie.Need-returns
 unfolding cellAt

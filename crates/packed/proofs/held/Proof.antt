@@ -1,12 +1,12 @@
--- `table::packed::held` meets its contract: what is picked is what the definition chooses.
+-- `packed::held` meets its contract: what is picked is what the definition chooses.
 -- Assumes nothing.
 use lib.Dec.{eqb}
 use borrow.Author.Needs.{needs}
 use Rattle.table.specs.Answers.{outside}
-use Rattle.table.specs.Packed.{held}
-use Rattle.table.proofs.Probing.{picked}
-use Rattle.table.proofs.packed.held.Statement.{statement}
-use Rattle.table.proofs.packed.held.Tie as tie
+use Rattle.packed.specs.Packed.{held}
+use Rattle.packed.proofs.Probing.{picked}
+use Rattle.packed.proofs.held.Statement.{statement}
+use Rattle.packed.proofs.held.Tie as tie
 
 returns : tie.Need-returns
 unfolding held

@@ -1,9 +1,9 @@
--- `table::packed::probe` meets its contract: both words of the cell are below the total.
+-- `packed::probe` meets its contract: both words of the cell are below the total.
 -- Assumes nothing.
 use mathlib.Core.Path.{_∙_}
 use borrow.Author.Needs.{needs}
-use Rattle.table.proofs.packed.probe.Statement.{statement}
-use Rattle.table.proofs.packed.probe.Tie as tie
+use Rattle.packed.proofs.probe.Statement.{statement}
+use Rattle.packed.proofs.probe.Tie as tie
 
 returns : tie.Need-returns
 returns c =

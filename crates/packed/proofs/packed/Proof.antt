@@ -1,10 +1,10 @@
--- `table::packed::packed` meets its contract, case by case: each arm is told which case f is.
+-- `packed::packed` meets its contract, case by case: each arm is told which case f is.
 -- Assumes nothing.
 use borrow.Author.Needs.{needs}
-use Rattle.table.specs.Packed.{unpacked}
-use Rattle.table.proofs.Probing.{unpacked-given}
-use Rattle.table.proofs.packed.packed.Statement.{statement}
-use Rattle.table.proofs.packed.packed.Tie as tie
+use Rattle.packed.specs.Packed.{unpacked}
+use Rattle.packed.proofs.Probing.{unpacked-given}
+use Rattle.packed.proofs.packed.Statement.{statement}
+use Rattle.packed.proofs.packed.Tie as tie
 
 returns-2 : tie.Need-returns-2
 unfolding unpacked

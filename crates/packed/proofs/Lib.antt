@@ -1,0 +1,2 @@
+-- The packed answer over plain words.
+pub mod Probing

@@ -1,0 +1,2 @@
+-- A lookup's answer in one word.
+pub mod Packed
