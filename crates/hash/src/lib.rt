@@ -1,5 +1,6 @@
 // The one hash function. Codes, multipliers and the prime are words of 32 bits; their products take 64.
 ghost use Prim.Native.Nat.{_*_, _<_, _≤_};
+ghost use mathlib.Core.Path.{_≡_};
 ghost use Rattle.hash.specs.Contract.{Hashed, Remainder, Ready};
 
 // x mod 65,537, without a division: 65,536 is one less than it, so the upper half of x counts negative.
@@ -15,29 +16,35 @@ fn by_halves(x: u64) -> u32
     (low - high) as u32
 }
 
-// (k × a) mod p.
-pub fn residue(p: u32, k: u32, a: u32) -> u32
-    requires { ⌜ 0 < p ⌝ }
-    ensures { λ r. ⌜ Remainder (k * a) p r ⌝ }
+// The product of two words.
+fn product(k: u32, a: u32) -> u64
+    ensures { λ r. ⌜ r ≡ k * a ⌝ }
 {
-    let product = (k as u64) * (a as u64);
-    if p == 65537 && k <= 65536 && a <= 65536 {
-        return by_halves(product);
-    }
-    (product % (p as u64)) as u32
+    (k as u64) * (a as u64)
 }
 
-// The same of numbers below p, as the multipliers and codes of a table that passed its tests are: none of them is tested here.
+// (k × a) mod p of numbers below p, as the multipliers and codes of a table that passed its tests are: none of them is tested here.
 pub fn residue_below(p: u32, k: u32, a: u32) -> u32
     requires { ⌜ k < p ⌝ }
     requires { ⌜ a < p ⌝ }
     ensures { λ r. ⌜ Remainder (k * a) p r ⌝ }
 {
-    let product = (k as u64) * (a as u64);
+    let x = product(k, a);
     if p == 65537 {
-        return by_halves(product);
+        return by_halves(x);
     }
-    (product % (p as u64)) as u32
+    (x % (p as u64)) as u32
+}
+
+// The same of any words.
+pub fn residue(p: u32, k: u32, a: u32) -> u32
+    requires { ⌜ 0 < p ⌝ }
+    ensures { λ r. ⌜ Remainder (k * a) p r ⌝ }
+{
+    if k < p && a < p {
+        return residue_below(p, k, a);
+    }
+    (product(k, a) % (p as u64)) as u32
 }
 
 // The place of code a among w places: ((k × a) mod p) mod w.
