@@ -2,10 +2,9 @@
 ghost use Prim.Native.Nat.{_<_, _≤_};
 ghost use mathlib.Core.Path.{_≡_};
 ghost use lib.ListN.{length};
-ghost use Rattle.table.specs.Answers.{firstOf};
+ghost use Rattle.table.specs.Answers.{firstOf, some};
 ghost use Rattle.table.specs.Words.{codeCount, cellCount, total};
 ghost use Rattle.table.specs.Sized.{Block, Cell};
-ghost use Rattle.faults.specs.Starts.{some};
 ghost use Rattle.faults.specs.Check.{badStart, badBlockMultiplier, badCell};
 use table::words::block_multiplier;
 use table::words::block_start;

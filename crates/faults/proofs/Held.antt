@@ -14,13 +14,14 @@ use borrow.Author.Tests.{eq-eqb, ne-eqb, eqb-true, not-true}
 use lib.Dec.{eqb}
 use lib.ListN.{length, getD, set, take, drop, length-append, length-set, length-drop, length-replicate, getD-replicate, replicate, drop-of-length-le, List·getD-append}
 use lib.Seq.{take-suc, take-suc-set, take-set-le, drop-cons, getD-take, length-take-le, getD-drop, getD-append-seam, getD-set-same, getD-set-other}
+use Rattle.table.specs.Answers.{some}
 use Rattle.hash.specs.Hash.{sum}
 use Rattle.hash.proofs.Indicators.{indicator-le}
 use Rattle.hash.proofs.Sums.{sum-ext, sum-split, sum-none}
 use Rattle.table.specs.Words.{codeCount, cellCount, total, blockStart, blockEnd, cellCode, blockOf, cellIn, ownCell}
 use Rattle.table.proofs.First.{Below, none-refused}
 use Rattle.faults.specs.Check.{misplaced, badSquare, codesIn, blockCodes, allCodes}
-use Rattle.faults.specs.Starts.{Starts, some}
+use Rattle.faults.specs.Starts.{Starts}
 use Rattle.faults.specs.Places.{heldBelow, loadIn, Passed, notOwn, Listed, Uncounted, Counted, badLoad, Right}
 use Rattle.faults.proofs.Bounds.{cells-le}
 use Rattle.faults.proofs.Counting.{codes-append}

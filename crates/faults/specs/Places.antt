@@ -5,11 +5,12 @@ use mathlib.Core.List.{List, [], _∷_, _++_}
 use mathlib.Core.Path.{_≡_}
 use lib.Dec.{eqb}
 use lib.ListN.{length, getD, take}
+use Rattle.table.specs.Answers.{some}
 use Rattle.hash.specs.Contract.{Ready}
 use Rattle.table.specs.Words.{codeCount, cellCount, blockStart, blockEnd, blockMultiplier, cellCode, blockOf, cellIn}
 use Rattle.table.specs.Sized.{Sized}
 use Rattle.faults.specs.Check.{misplaced, badSquare, codesIn, allCodes}
-use Rattle.faults.specs.Starts.{Starts, some}
+use Rattle.faults.specs.Starts.{Starts}
 
 -- the cells below i that hold a code, by rising cell
 unfoldable pub heldBelow : List ℕ → ℕ → List ℕ

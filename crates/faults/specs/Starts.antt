@@ -1,15 +1,8 @@
 -- What the code that tests for faults relies on and promises.
 use Prim.Native.Nat.{ℕ, _+_, _<_, _≤_}
-use mathlib.Core.Bool.{Bool}
 use mathlib.Core.List.{List}
 use mathlib.Core.Path.{_≡_}
-use lib.Dec.{ltb}
-use Rattle.table.specs.Answers.{firstOf}
 use Rattle.table.specs.Words.{codeCount, cellCount, blockStart}
-
--- a test holds of one of 0 to n - 1
-abbrev pub some : ℕ → (ℕ → Bool) → Bool
-some n test = ltb (firstOf n test) n
 
 -- none of 13 and 16 holds: the blocks follow one another from cell 0 to cell c
 pub record Starts (words : List ℕ) : Type 0 where

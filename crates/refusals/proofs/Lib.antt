@@ -1,6 +1,5 @@
 -- What the proofs of the functions cite, by topic.
 pub mod Among
 mod Chains
-mod Some
 mod Bits
 mod Marking

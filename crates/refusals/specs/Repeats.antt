@@ -2,9 +2,8 @@
 use Prim.Native.Nat.{ℕ}
 use mathlib.Core.Bool.{Bool, false, _||_}
 use mathlib.Core.List.{List, [], _∷_}
-use lib.Dec.{eqb, ltb}
+use lib.Dec.{eqb}
 use lib.ListN.{getD, take}
-use Rattle.table.specs.Answers.{firstOf}
 
 -- the most pairs of a list: the chains have a place for each
 abbrev pub mostPairs : ℕ
@@ -19,7 +18,3 @@ among a (x ∷ codes) = eqb a x || among a codes
 unfoldable pub repeated : List ℕ → ℕ → Bool
 unfolding among
 repeated codes i = among (getD codes i 0) (take i codes)
-
--- a test holds of some number below n
-abbrev pub some : ℕ → (ℕ → Bool) → Bool
-some n test = ltb (firstOf n test) n

@@ -1,8 +1,7 @@
 // Numbers out of range (refusals 3 and 4).
 ghost use mathlib.Core.Path.{_≡_};
 ghost use lib.ListN.{length, getD};
-ghost use Rattle.table.specs.Answers.{firstOf, outside};
-ghost use Rattle.refusals.specs.Repeats.{some};
+ghost use Rattle.table.specs.Answers.{firstOf, outside, some};
 use table::words::outside;
 
 // Whether some number of a list is not from 1 to high: all are tested, without a branch.

@@ -2,8 +2,8 @@
 ghost use Prim.Native.Nat.{_<_, _≤_};
 ghost use mathlib.Core.Path.{_≡_};
 ghost use lib.ListN.{length, take};
-ghost use Rattle.table.specs.Answers.{firstOf};
-ghost use Rattle.refusals.specs.Repeats.{mostPairs, among, repeated, some};
+ghost use Rattle.table.specs.Answers.{firstOf, some};
+ghost use Rattle.refusals.specs.Repeats.{mostPairs, among, repeated};
 ghost use Rattle.refusals.specs.Chains.{Chain};
 ghost use Rattle.refusals.specs.Marks.{Met};
 

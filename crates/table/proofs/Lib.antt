@@ -2,6 +2,7 @@
 -- refusals one below the other, the steps of a panel's walk and of a lookup.
 pub mod Laws
 pub mod First
+pub mod Some
 pub mod Refusals
 pub mod Walk
 pub mod Steps

@@ -26,9 +26,13 @@ unfoldable pub firstOf : ℕ → (ℕ → Bool) → ℕ
 firstOf zero test = 0
 firstOf (suc n) test = let first = firstOf n test in cond (ltb first n) first (cond (test n) n (suc n))
 
+-- the test holds of some number below n
+abbrev pub some : ℕ → (ℕ → Bool) → Bool
+some n test = ltb (firstOf n test) n
+
 -- refused with the first of 0 to n - 1 of which the test holds, otherwise what follows
 abbrev pub refuseFirst : ℕ → (ℕ → Bool) → ℕ → Answer → Answer
-refuseFirst n test number rest = refuse (ltb (firstOf n test) n) number (firstOf n test) rest
+refuseFirst n test number rest = refuse (some n test) number (firstOf n test) rest
 
 -- the refusals of an earlier answer, otherwise what follows
 abbrev pub orRefused : Answer → Answer → Answer

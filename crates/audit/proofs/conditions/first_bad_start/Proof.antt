@@ -8,7 +8,7 @@ use borrow.Author.Needs.{needs}
 use Rattle.table.specs.Words.{codeCount}
 use Rattle.table.proofs.First.{Below, below-none, below-next, first-found, first-end}
 use Rattle.faults.specs.Check.{badStart}
-use Rattle.faults.proofs.Some.{none-first}
+use Rattle.table.proofs.Some.{none-first}
 use Rattle.audit.proofs.conditions.first_bad_start.Statement.{statement}
 use Rattle.audit.proofs.conditions.first_bad_start.Tie as tie
 

@@ -6,10 +6,10 @@ use mathlib.Core.Bool.{_||_}
 use mathlib.Core.Path.{_≡_, sym, ap₂, _∙_}
 use native.Mathlib.Omega.{arith}
 use borrow.Author.Needs.{needs}
+use Rattle.table.specs.Answers.{some}
 use Rattle.table.specs.Words.{codeCount}
 use Rattle.faults.specs.Check.{badBlockMultiplier}
-use Rattle.faults.specs.Starts.{some}
-use Rattle.faults.proofs.Some.{some-of-none, some-next, some-end}
+use Rattle.table.proofs.Some.{some-of-none, some-next, some-end}
 use Rattle.audit.proofs.conditions.some_bad_multiplier.Statement.{statement}
 use Rattle.audit.proofs.conditions.some_bad_multiplier.Tie as tie
 

@@ -8,10 +8,10 @@ use native.Mathlib.Omega.{arith}
 use borrow.Author.Tests.{ne-eqb}
 use borrow.Author.Needs.{needs}
 use lib.Dec.{ltb}
+use Rattle.table.specs.Answers.{some}
 use Rattle.table.specs.Words.{codeCount, cellCount}
 use Rattle.faults.specs.Check.{badStart}
-use Rattle.faults.specs.Starts.{some}
-use Rattle.faults.proofs.Some.{some-of-none, some-one, some-next, some-end}
+use Rattle.table.proofs.Some.{some-of-none, some-one, some-next, some-end}
 use Rattle.audit.proofs.conditions.some_bad_start.Statement.{statement}
 use Rattle.audit.proofs.conditions.some_bad_start.Tie as tie
 

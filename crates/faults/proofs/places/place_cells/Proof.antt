@@ -8,11 +8,11 @@ use mathlib.Core.Path.{_≡_, sym, ap, ap₂, _∙_}
 use native.Mathlib.Omega.{arith}
 use borrow.Author.Needs.{needs}
 use lib.ListN.{length, getD}
+use Rattle.table.specs.Answers.{some}
 use Rattle.table.specs.Words.{codeCount, cellCount, cellCode, blockOf}
 use Rattle.faults.specs.Check.{misplaced}
-use Rattle.faults.specs.Starts.{some}
 use Rattle.faults.proofs.Bounds.{cells-le}
-use Rattle.faults.proofs.Some.{some-of-none, some-next, some-end}
+use Rattle.table.proofs.Some.{some-of-none, some-next, some-end}
 use Rattle.faults.proofs.Held.{Held, held-within, held-in, misplaced-is, Loading, loading-none, loading-le, loading-next, loading-all}
 use Rattle.faults.proofs.places.place_cells.Statement.{statement}
 use Rattle.faults.proofs.places.place_cells.Tie as tie

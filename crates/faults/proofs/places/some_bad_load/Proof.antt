@@ -10,10 +10,10 @@ use borrow.Author.Needs.{needs}
 use borrow.Author.Tests.{eq-eqb, ne-eqb}
 use lib.Dec.{eqb}
 use lib.ListN.{getD}
+use Rattle.table.specs.Answers.{some}
 use Rattle.table.specs.Words.{codeCount, cellCount, blockStart, blockEnd}
-use Rattle.faults.specs.Starts.{some}
 use Rattle.faults.specs.Places.{badLoad}
-use Rattle.faults.proofs.Some.{some-of-none, some-next}
+use Rattle.table.proofs.Some.{some-of-none, some-next}
 use Rattle.faults.proofs.places.some_bad_load.Statement.{statement}
 use Rattle.faults.proofs.places.some_bad_load.Tie as tie
 

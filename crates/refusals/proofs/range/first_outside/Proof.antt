@@ -7,7 +7,7 @@ use borrow.Author.Tests.{not-true}
 use lib.ListN.{length, getD}
 use Rattle.table.specs.Answers.{outside}
 use Rattle.table.proofs.First.{Below, below-none, below-next, first-found, first-end}
-use Rattle.refusals.proofs.Some.{none-first}
+use Rattle.table.proofs.Some.{none-first}
 use Rattle.refusals.proofs.range.first_outside.Statement.{statement}
 use Rattle.refusals.proofs.range.first_outside.Tie as tie
 

@@ -6,9 +6,8 @@ use mathlib.Core.Path.{_≡_, sym, ap₂, _∙_}
 use native.Mathlib.Omega.{arith}
 use borrow.Author.Needs.{needs}
 use lib.ListN.{length, getD}
-use Rattle.table.specs.Answers.{outside}
-use Rattle.refusals.specs.Repeats.{some}
-use Rattle.refusals.proofs.Some.{some-of-none, some-next, some-end}
+use Rattle.table.specs.Answers.{outside, some}
+use Rattle.table.proofs.Some.{some-of-none, some-next, some-end}
 use Rattle.refusals.proofs.range.some_outside.Statement.{statement}
 use Rattle.refusals.proofs.range.some_outside.Tie as tie
 

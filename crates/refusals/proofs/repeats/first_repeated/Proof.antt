@@ -4,7 +4,7 @@ use mathlib.Core.Path.{sym, _∙_}
 use borrow.Author.Needs.{needs}
 use borrow.Author.Tests.{not-true}
 use Rattle.table.proofs.First.{first-none}
-use Rattle.refusals.proofs.Some.{none-first}
+use Rattle.table.proofs.Some.{none-first}
 use Rattle.refusals.proofs.repeats.first_repeated.Statement.{statement}
 use Rattle.refusals.proofs.repeats.first_repeated.Tie as tie
 

@@ -6,8 +6,9 @@ use mathlib.Core.Path.{_≡_, sym, ap₂, _∙_}
 use native.Mathlib.Omega.{arith}
 use borrow.Author.Needs.{needs}
 use lib.ListN.{length}
-use Rattle.refusals.specs.Repeats.{repeated, some}
-use Rattle.refusals.proofs.Some.{some-of-none, some-next, some-end}
+use Rattle.table.specs.Answers.{some}
+use Rattle.refusals.specs.Repeats.{repeated}
+use Rattle.table.proofs.Some.{some-of-none, some-next, some-end}
 use Rattle.refusals.proofs.repeats.some_repeated.Statement.{statement}
 use Rattle.refusals.proofs.repeats.some_repeated.Tie as tie
 

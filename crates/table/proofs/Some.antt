@@ -8,11 +8,9 @@ use native.Mathlib.Decide.{decLt}
 use native.Mathlib.Nat.{le-antisymm}
 use native.Mathlib.Omega.{arith}
 use borrow.Author.Tests.{lt-ltb, le-ltb}
-use lib.Dec.{ltb}
-use Rattle.table.specs.Answers.{firstOf}
+use Rattle.table.specs.Answers.{firstOf, some}
 use Rattle.table.proofs.First.{first-next, first-none, none-refused}
 use Rattle.hash.proofs.Indicators.{true-or-false}
-use Rattle.faults.specs.Starts.{some}
 
 pub some-of-none : (test : ℕ → Bool) → some 0 test ≡ false
 some-of-none test = le-ltb (firstOf 0 test) 0 (omega arith)
