@@ -2,5 +2,4 @@
 pub mod Among
 mod Chains
 mod Some
-mod Bits
 mod Marking
