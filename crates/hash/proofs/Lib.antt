@@ -12,3 +12,4 @@ pub mod Permuted
 pub mod Multipliers
 pub mod LeastLaws
 pub mod Theorems
+pub mod BitSets

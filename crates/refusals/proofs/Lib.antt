@@ -2,4 +2,5 @@
 pub mod Among
 mod Chains
 mod Bits
+mod Some
 mod Marking

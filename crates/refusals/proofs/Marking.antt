@@ -13,7 +13,7 @@ use lib.Seq.{getD-set-same, getD-set-other, getD-take, length-take-le}
 use Rattle.table.proofs.First.{Below, below-none, below-next}
 use Rattle.refusals.specs.Repeats.{repeated}
 use Rattle.refusals.proofs.Among.{among-none}
-use Rattle.refusals.proofs.Bits.{has, or-none, put-same, put-keeps, none-common}
+use Rattle.hash.proofs.BitSets.{has, or-none, put-same, put-keeps, none-common}
 
 -- the word and the digit of a code's mark
 abbrev pub word : ℕ → ℕ

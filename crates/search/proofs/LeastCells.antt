@@ -6,6 +6,7 @@ use mathlib.Core.Bool.{Bool, true, false}
 use mathlib.Core.List.{List, [], _∷_}
 use mathlib.Core.Path.{_≡_, refl, sym, ap, _∙_}
 use borrow.Author.Tests.{eq-eqb, ne-eqb}
+use lib.Dec.{eqb}
 use lib.ListN.{length, replicate, length-replicate}
 use Rattle.hash.specs.Hash.{hashOf, load, together}
 use Rattle.table.specs.TwoLevel.{tabulate, cellsMultiplier}
@@ -46,6 +47,13 @@ module _ {p : ℕ} {block cells : List ℕ} (u : Unplaced p block cells) where
       let e : separates p block q ≡ false =
       ne-eqb (together p q (square block) block) 0 (λ none. shared (ap (λ (w : ℕ). together p q w block) unplaced-square ∙ none)) in
       record { answer = sym e; cells = rw e (zeros ∙ sym unplaced-zeros) }
+
+  -- at most 8 codes have at most 64 cells
+  pub few-cells : length block ≤ 8 → length cells ≤ 64
+  few-cells few = omega (arith, unplaced-square, mul-le-mul-left (length block) few, mul-le-mul-right 8 few)
+
+  pub few-fails : (q : ℕ) → eqb (together p q (length cells) block) 0 ≡ false → separates p block q ≡ false
+  few-fails q e = ap (λ (w : ℕ). eqb (together p q w block) 0) (sym unplaced-square) ∙ e
 
 -- q is to be tried
 abbrev pub TryingCells : ℕ → List ℕ → ℕ → Type 0

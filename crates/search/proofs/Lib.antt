@@ -9,3 +9,4 @@ pub mod LeastBlocks
 pub mod Places
 pub mod LeastCells
 pub mod Twos
+pub mod Taking

@@ -4,7 +4,7 @@ ghost use mathlib.Core.Path.{_≡_};
 ghost use mathlib.Core.Bool.{cond};
 ghost use lib.Dec.{eqb};
 ghost use lib.ListN.{length, replicate};
-ghost use Rattle.hash.specs.Hash.{hashOf, Codes};
+ghost use Rattle.hash.specs.Hash.{hashOf, together, Codes};
 ghost use Rattle.hash.specs.Contract.{Ready};
 ghost use Rattle.search.specs.Cells.{Unplaced, Placing, Tried, LeastCells};
 
@@ -69,6 +69,55 @@ fn cells_multiplier(p: u32, block: &[u32], cells: &mut [u32]) -> u32
     q
 }
 
+// Whether q puts the codes of a block in different ones of w cells, told by a bit for each cell that is taken.
+fn apart(p: u32, q: u32, w: u32, reciprocal: u64, block: &[u32]) -> bool
+    requires { ⌜ Codes p (now block) × ((q < p) × Ready p w reciprocal) ⌝ }
+    requires { ⌜ w ≤ 64 ⌝ }
+    ensures { λ r. ⌜ r ≡ eqb (together p q w (now (block .entry))) 0 ⌝ }
+{
+    let mut taken: u64 = 0;
+    let mut shared: u64 = 0;
+    let mut i = block.len();
+    while 0 < i {
+        i -= 1;
+        let bit = 1u64 << hash::hash_below_by(p, q, w, reciprocal, block[i]);
+        shared = shared | (taken & bit);
+        taken = taken | bit;
+    }
+    shared == 0
+}
+
+// Puts the codes of a block in their cells, which are all 0, by a multiplier that separates them.
+fn fill(p: u32, q: u32, w: u32, reciprocal: u64, block: &[u32], cells: &mut [u32])
+    requires { ⌜ Codes p (now block) × ((q < p) × Ready p w reciprocal) ⌝ }
+    requires { ⌜ Placing p q w (now block) (length (now block)) (now cells) × (together p q w (now block) ≡ 0) ⌝ }
+    ensures { λ _. ⌜ Placing p q w (now (block .entry)) 0 (now (cells .exit)) ⌝ }
+{
+    let mut i = block.len();
+    while 0 < i {
+        i -= 1;
+        let a = block[i];
+        let t = hash::hash_below_by(p, q, w, reciprocal, a) as usize;
+        cells[t] = a;
+    }
+}
+
+// The same for a block of at most 8 codes, whose cells are the bits of one word: they are written once, by the multiplier that is found.
+fn few_multiplier(p: u32, block: &[u32], cells: &mut [u32]) -> u32
+    requires { ⌜ Unplaced p (now block) (now cells) ⌝ }
+    requires { ⌜ (0 < length (now block)) × (length (now block) ≤ 8) ⌝ }
+    ensures { λ r. ⌜ LeastCells p (now (block .entry)) (now (cells .exit)) r ⌝ }
+{
+    let w = cells.len() as u32;
+    let reciprocal = hash::reciprocal(p, w);
+    let mut q = 1;
+    while !apart(p, q, w, reciprocal, block) {
+        q += 1;
+    }
+    fill(p, q, w, reciprocal, block, cells);
+    q
+}
+
 // Whether q puts two codes in one of four cells.
 fn collide(p: u32, q: u32, a: u32, b: u32) -> bool
     requires { ⌜ (q < p) × ((a < p) × (b < p)) ⌝ }
@@ -106,6 +155,9 @@ pub fn block_multiplier(p: u32, block: &[u32], cells: &mut [u32]) -> u32
 {
     if block.len() == 2 {
         return two_multiplier(p, block, cells);
+    }
+    if block.len() <= 8 {
+        return few_multiplier(p, block, cells);
     }
     cells_multiplier(p, block, cells)
 }

@@ -7,7 +7,7 @@ use native.Mathlib.Omega.{arith}
 use borrow.Author.Needs.{needs}
 use borrow.Author.Tests.{eqb-true, not-false}
 use lib.ListN.{length}
-use Rattle.refusals.proofs.Bits.{single-is}
+use Rattle.hash.proofs.BitSets.{single-is}
 use Rattle.refusals.proofs.Marking.{Marking, marking-start, marking-more}
 use Rattle.refusals.proofs.repeats.some_met.Statement.{statement}
 use Rattle.refusals.proofs.repeats.some_met.Tie as tie
