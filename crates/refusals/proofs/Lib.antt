@@ -1,6 +1,4 @@
 -- What the proofs of the functions cite, by topic.
 pub mod Among
 mod Chains
-mod Bits
-mod Some
 mod Marking
