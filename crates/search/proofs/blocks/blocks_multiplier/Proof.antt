@@ -27,7 +27,7 @@ loop-holds c = let start = c .before .before .before .before .before in (blocks-
 count-cells-requires : tie.Need-count-cells-requires Inv-loop μ-loop
 count-cells-requires c κs =
     let h = c .before .before .before in
-    (record { multiplier = c .before .before .loop-test .taken; below = h .before .before .before .before .before .before .pre .0 .valid .below; some = omega arith; few = omega arith; sized = h .loop .inv .1 }, search needs)
+    (record { multiplier = omega (arith, h .loop .inv .0 .upto, h .loop .inv .0 .least .below); below = h .before .before .before .before .before .before .pre .0 .valid .below; some = omega arith; few = omega arith; sized = h .loop .inv .1 }, search needs)
 
 returns-2 : tie.Need-returns-2 Inv-loop μ-loop
 returns-2 c =

@@ -24,7 +24,7 @@ place-block-requires c κs =
     let ready = h .before in
     let start = ready .before .before .before in (
       record { codes = start .pre .0 .codes; zeros = h .loop .inv .1 ∙ start .pre .0 .zeros },
-      (c .before .loop-test .taken, rw (h .loop .inv .1) (ready .reciprocal .ensures)),
+      (omega (arith, h .loop .inv .0 .upto, h .loop .inv .0 .least .below), rw (h .loop .inv .1) (ready .reciprocal .ensures)),
     )
 
 same-length : tie.Need-same-length Inv-loop μ-loop
