@@ -9,7 +9,7 @@
  * pointer will do): nothing is read or written through it. Arrays that are written may overlap no other array of the same call. A refusal changes nothing
  * that was lent.
  *
- * Stack. glass_insert and glass_remove use up to 128 KiB, glass_pairs up to 84 KiB, glass_build up to 48 KiB, glass_check up to 20 KiB, the
+ * Stack. glass_insert and glass_remove use up to 132 KiB, glass_pairs up to 84 KiB, glass_build up to 52 KiB, glass_check up to 20 KiB, the
  * others less than 1 KiB.
  *
  * Answers. Every function answers a number and a value:

@@ -15,8 +15,8 @@ use Rattle.table.proofs.Contents.{needed-is, table-length}
 use Rattle.search.specs.Searchable.{Searchable, mostCodes}
 use Rattle.search.specs.Blocks.{LeastBlocks, Blocked}
 use Rattle.refusals.specs.Repeats.{repeated}
-use Rattle.writer.specs.Grouping.{Blocks, Loads}
-use Rattle.writer.specs.Writing.{Writable}
+use Rattle.groups.specs.Grouping.{Blocks, Loads}
+use Rattle.writer.specs.Writing.{Writable, Room}
 use Rattle.builder.specs.Build.{badCode, badSchedule, listOr, buildOf, builtWords, Built}
 use Rattle.builder.specs.Built.{acceptedOf, Accepted}
 
@@ -132,7 +132,7 @@ module _ {p k c : ℕ} {codes : List ℕ} (s : Searchable p codes) (f : LeastBlo
   total-fits = omega (arith, few, s .few)
 
   pub accepted-writable : (schedules : List ℕ) → length schedules ≡ length codes → Writable p k c codes schedules
-  accepted-writable schedules parallel = record { celled = record { searchable = s; cells-are = f .cells }; parallel = parallel }
+  accepted-writable schedules parallel = record { searchable = s; cells-are = f .cells; parallel = parallel }
 
   module _ (schedules words : List ℕ) where
     pub too-short : length words < total → Accepted p codes schedules words (refused 6 total) words
@@ -169,3 +169,16 @@ module _ {p k : ℕ} {codes blocks counts : List ℕ} (b : Blocked p k codes blo
   pub blocked-loads : (rest : List ℕ) → length counts ≡ length codes → Loads p k codes (counts ++ rest)
   blocked-loads rest same =
       record { counts-are = λ j l. List·getD-append counts rest 0 j (omega arith) ∙ b .loads-are j l }
+
+-- ---- room to work in
+
+-- room for m codes is room for fewer
+pub room-for :
+    {n m : ℕ} (at grouped paired lists : List ℕ) → n ≤ m → length at ≡ m + 1 → (length grouped ≡ m) × (length paired ≡ m) → length lists ≡ 3 * m
+    → Room n at grouped paired lists
+room-for at grouped paired lists few at-is (grouped-is, paired-is) lists-are =
+    record {
+      at-room = omega (arith, at-is, few);
+      grouped-room = (omega (arith, grouped-is, few), omega (arith, paired-is, few));
+      listed-room = omega (arith, lists-are, few);
+    }

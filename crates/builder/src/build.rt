@@ -36,13 +36,13 @@ fn build_with(
     blocks: &mut [u32],
     at: &mut [u32],
     grouped: &mut [u32],
-    twos: &mut [u32],
-    mores: &mut [u32],
+    paired: &mut [u32],
+    lists: &mut [u16],
     words: &mut [u32],
 ) -> BuildAnswer
     requires { ⌜ Searchable p (now codes) ⌝ }
     requires { ⌜ (length (now schedules) ≡ length (now codes)) × (length (now blocks) ≡ length (now codes)) ⌝ }
-    requires { ⌜ Room (length (now codes)) (now at) (now grouped) (now twos) (now mores) ⌝ }
+    requires { ⌜ Room (length (now codes)) (now at) (now grouped) (now paired) (now lists) ⌝ }
     ensures { λ r. ⌜ Accepted p (now (codes .entry)) (now (schedules .entry)) (now (words .entry)) (builtOf r) (now (words .exit)) ⌝ }
 {
     let n = codes.len();
@@ -64,8 +64,8 @@ fn build_with(
         blocks,
         at,
         grouped,
-        twos,
-        mores,
+        paired,
+        lists,
         &mut words[..total],
     );
     BuildAnswer::Built(given)
@@ -81,9 +81,9 @@ fn build_accepted(p: u32, codes: &[u32], schedules: &[u32], words: &mut [u32]) -
     if n <= 32 {
         let mut blocks = [0u32; 32];
         let mut at = [0u32; 33];
-        let mut grouped = [0u32; 33];
-        let mut twos = [0u32; 32];
-        let mut mores = [0u32; 32];
+        let mut grouped = [0u32; 32];
+        let mut paired = [0u32; 32];
+        let mut lists = [0u16; 96];
         return build_with(
             p,
             codes,
@@ -91,17 +91,17 @@ fn build_accepted(p: u32, codes: &[u32], schedules: &[u32], words: &mut [u32]) -
             &mut blocks[..n],
             &mut at,
             &mut grouped,
-            &mut twos,
-            &mut mores,
+            &mut paired,
+            &mut lists,
             words,
         );
     }
     if n <= 256 {
         let mut blocks = [0u32; 256];
         let mut at = [0u32; 257];
-        let mut grouped = [0u32; 257];
-        let mut twos = [0u32; 256];
-        let mut mores = [0u32; 256];
+        let mut grouped = [0u32; 256];
+        let mut paired = [0u32; 256];
+        let mut lists = [0u16; 768];
         return build_with(
             p,
             codes,
@@ -109,16 +109,16 @@ fn build_accepted(p: u32, codes: &[u32], schedules: &[u32], words: &mut [u32]) -
             &mut blocks[..n],
             &mut at,
             &mut grouped,
-            &mut twos,
-            &mut mores,
+            &mut paired,
+            &mut lists,
             words,
         );
     }
     let mut blocks = [0u32; 2048];
     let mut at = [0u32; 2049];
-    let mut grouped = [0u32; 2049];
-    let mut twos = [0u32; 2048];
-    let mut mores = [0u32; 2048];
+    let mut grouped = [0u32; 2048];
+    let mut paired = [0u32; 2048];
+    let mut lists = [0u16; 6144];
     build_with(
         p,
         codes,
@@ -126,8 +126,8 @@ fn build_accepted(p: u32, codes: &[u32], schedules: &[u32], words: &mut [u32]) -
         &mut blocks[..n],
         &mut at,
         &mut grouped,
-        &mut twos,
-        &mut mores,
+        &mut paired,
+        &mut lists,
         words,
     )
 }

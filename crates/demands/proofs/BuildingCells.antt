@@ -22,9 +22,9 @@ use Rattle.table.proofs.Front.{sizeOf, blockQ, start-last, Fronted}
 use Rattle.table.proofs.Own.{block-apart}
 use Rattle.faults.specs.Check.{codesIn}
 use Rattle.faults.proofs.Counting.{codes-append}
-use Rattle.search.specs.Placed.{placed}
-use Rattle.search.proofs.PlacedLaws.{placed-here, placed-later, placed-none}
-use Rattle.search.proofs.BlockCells.{block-cells}
+use Rattle.search.specs.Placed.{heldBy}
+use Rattle.search.proofs.PlacedLaws.{heldBy-here, heldBy-later, heldBy-none}
+use Rattle.search.proofs.BlockCells.{block-codes}
 
 -- a cell counts where it holds a code
 abbrev full : ℕ → ℕ
@@ -38,31 +38,31 @@ codes-tabulate f (suc n) = omega (arith, codes-append (tabulate f n) (f n ∷ []
 -- one code more fills one cell more
 full-more :
     (p q w a : ℕ) (block : List ℕ) (t : ℕ) → 0 < a → load p q w (hashOf p q w a) block ≡ 0
-    → full (placed p q w (a ∷ block) t) ≡ indicator (eqb (hashOf p q w a) t) + full (placed p q w block t)
+    → full (heldBy p q w (a ∷ block) (a ∷ block) t) ≡ indicator (eqb (hashOf p q w a) t) + full (heldBy p q w block block t)
 full-more p q w a block t pos none =
     elim (ℕ-discrete (hashOf p q w a) t) [
       | yes e ↦
           omega (
             arith,
-            ap full (placed-here p q w a block t e),
+            ap full (heldBy-here p q w a a block block t e),
             ap {B = ℕ} (λ (b : Bool). cond b 0 1) (ne-eqb a 0 (λ z. omega arith)),
             indicator-eq (hashOf p q w a) t e,
-            ap full (placed-none p q w block t (rw e at none)),
+            ap full (heldBy-none p q w block block t (rw e at none)),
           )
-      | no ne ↦ omega (arith, ap full (placed-later p q w a block t ne), indicator-ne (hashOf p q w a) t ne)
+      | no ne ↦ omega (arith, ap full (heldBy-later p q w a a block block t ne), indicator-ne (hashOf p q w a) t ne)
     ]
 
 full-all :
     (p q w : ℕ) (block : List ℕ) → 0 < w → Codes p block → together p q w block ≡ 0
-    → sum (λ t. full (placed p q w block t)) w ≡ length block
-unfolding together placed
+    → sum (λ t. full (heldBy p q w block block t)) w ≡ length block
+unfolding together heldBy
 full-all p q w [] pos valid none = omega (arith, sum-const 0 w)
 full-all p q w (a ∷ block) pos valid none =
     omega (
       arith,
-      sum-ext (λ t. full (placed p q w (a ∷ block) t)) (λ t. indicator (eqb (hashOf p q w a) t) + full (placed p q w block t)) w
+      sum-ext (λ t. full (heldBy p q w (a ∷ block) (a ∷ block) t)) (λ t. indicator (eqb (hashOf p q w a) t) + full (heldBy p q w block block t)) w
           (λ t l. full-more p q w a block t (valid .positive 0 (omega arith)) (omega arith)),
-      sum-add (λ t. indicator (eqb (hashOf p q w a) t)) (λ t. full (placed p q w block t)) w,
+      sum-add (λ t. indicator (eqb (hashOf p q w a) t)) (λ t. full (heldBy p q w block block t)) w,
       sum-one (hashOf p q w a) w (hash-lt p q w a pos),
       full-all p q w block pos (codes-tail valid) (omega arith),
     )
@@ -71,7 +71,8 @@ module _ {p : ℕ} (prime : Prime p) (k : ℕ) (codes : List ℕ) (valid : Codes
   -- block j holds its codes
   pub block-full :
       (j : ℕ)
-      → codesIn (tabulate (placed p (blockQ p k codes j) (sizeOf p k codes j) (members p k (length codes) j codes)) (sizeOf p k codes j))
+      → let block = members p k (length codes) j codes in
+      codesIn (tabulate (heldBy p (blockQ p k codes j) (sizeOf p k codes j) block block) (sizeOf p k codes j))
       ≡ load p k (length codes) j codes
   unfolding tabulate codesIn
   block-full j =
@@ -79,10 +80,10 @@ module _ {p : ℕ} (prime : Prime p) (k : ℕ) (codes : List ℕ) (valid : Codes
       let block : List ℕ = members p k (length codes) j codes in
       elim (ℕ-discrete m 0) [
         | yes none ↦
-            ap (λ (l : ℕ). codesIn (tabulate (placed p (blockQ p k codes j) (m * m) block) (l * l))) none ∙ sym none
+            ap (λ (l : ℕ). codesIn (tabulate (heldBy p (blockQ p k codes j) (m * m) block block) (l * l))) none ∙ sym none
         | no some ↦
             let pos : 0 < m = omega arith in
-            codes-tabulate (placed p (blockQ p k codes j) (m * m) block) (m * m)
+            codes-tabulate (heldBy p (blockQ p k codes j) (m * m) block block) (m * m)
             ∙ full-all p (blockQ p k codes j) (m * m) block (mul-pos pos pos)
             (members-codes p k (length codes) j codes valid)
             (block-apart prime k codes valid j)
@@ -98,9 +99,9 @@ module _ {p : ℕ} (prime : Prime p) (k : ℕ) (codes : List ℕ) (valid : Codes
     blocks-full zero h = refl
     blocks-full (suc j) h =
         let before : List ℕ = tabulate (heldIn p words codes codes) (startOf p k codes j) in
-        let these : List ℕ =
-        tabulate (placed p (blockQ p k codes j) (sizeOf p k codes j) (members p k (length codes) j codes)) (sizeOf p k codes j) in
-        omega (arith, ap codesIn (block-cells f j h), codes-append before these, blocks-full j (omega arith), block-full j)
+        let block : List ℕ = members p k (length codes) j codes in
+        let these : List ℕ = tabulate (heldBy p (blockQ p k codes j) (sizeOf p k codes j) block block) (sizeOf p k codes j) in
+        omega (arith, ap codesIn (block-codes f j h), codes-append before these, blocks-full j (omega arith), block-full j)
 
     pub table-full : codesIn (tabulate (heldIn p words codes codes) (cells p k codes)) ≡ length codes
     unfolding sum

@@ -21,8 +21,8 @@ use Rattle.table.proofs.Own.{listed-load}
 use Rattle.table.proofs.Contents.{Tabled, Filled, Empty, filled-or-empty, cellsOf-is, needed-is}
 use Rattle.faults.specs.Check.{codesIn, blockCodes, allCodes}
 use Rattle.audit.specs.WellFormed.{WellFormed}
-use Rattle.search.specs.Placed.{placed}
-use Rattle.search.proofs.BlockCells.{held-placed}
+use Rattle.search.specs.Placed.{heldBy}
+use Rattle.search.proofs.BlockCells.{held-codes}
 use Rattle.demands.specs.Lists.{Valid}
 use Rattle.demands.proofs.BuildingCells.{block-full, table-full}
 
@@ -50,13 +50,13 @@ module _
 
     code-at :
         (j i : ℕ) → j < length codes → i < sizeOf p k codes j
-        → getD words (3 + 2 * codeCount words + blockStart words j + i) 0
-        ≡ placed p (blockQ p k codes j) (sizeOf p k codes j) (members p k (length codes) j codes) i
+        → let block = members p k (length codes) j codes in
+        getD words (3 + 2 * codeCount words + blockStart words j + i) 0 ≡ heldBy p (blockQ p k codes j) (sizeOf p k codes j) block block i
     code-at j i h l =
         ap (λ (m : ℕ). getD words m 0) (add-assoc (3 + 2 * codeCount words) (blockStart words j) i)
         ∙ ap (λ (s : ℕ). cellCode words (s + i)) (f .starts j h)
         ∙ t .code-held (startOf p k codes j + i) (cell-lt j i h l)
-        ∙ held-placed f j h codes i l (listed-load p k codes)
+        ∙ held-codes f j h i l
 
     block-count : (j : ℕ) → j < length codes → codesIn (blockCodes words j) ≡ load p k (length codes) j codes
     block-count j h =

@@ -3,9 +3,8 @@
 use Prim.Native.Nat.{ℕ, zero, suc, _+_, _<_, _≤_}
 use mathlib.Core.Bool.{Bool, true, false, _||_}
 use mathlib.Core.List.{List, [], _∷_, _++_}
-use mathlib.Core.Path.{_≡_, refl, sym, ap, _∙_}
+use mathlib.Core.Path.{_≡_, refl, sym, ap}
 use native.Mathlib.Decide.{ℕ-discrete}
-use native.Mathlib.Numerals.{add-one}
 use native.Mathlib.Omega.{arith}
 use borrow.Author.Tests.{eq-eqb, ne-eqb}
 use lib.Dec.{eqb}
@@ -36,12 +35,6 @@ unfolding among
 among-suc a codes n l =
     rw (take-suc codes n 0 l, among-append a (take n codes) (getD codes n 0 ∷ []))
     (ap (λ (b : Bool). among a (take n codes) || b) (or-no (eqb a (getD codes n 0))))
-
-pub among-next :
-    (a : ℕ) (codes : List ℕ) (j : ℕ) {met : Bool} → met ≡ among a (take j codes) → j < length codes
-    → met || eqb a (getD codes j 0) ≡ among a (take (j + 1) codes)
-among-next a codes j {met} is l =
-    rw (add-one j) (ap (λ (b : Bool). b || eqb a (getD codes j 0)) is ∙ sym (among-suc a codes j l))
 
 pub among-here : (a : ℕ) (codes : List ℕ) (n : ℕ) → n < length codes → getD codes n 0 ≡ a → among a (take (suc n) codes) ≡ true
 among-here a codes n l e = rw (among-suc a codes n l, eq-eqb a (getD codes n 0) (sym e)) (or-yes (among a (take n codes)))

@@ -1,4 +1,4 @@
--- A test for repeats by marks, which may be met without one.
+-- A quick test for repeats, which may be met without one.
 use Prim.Native.Nat.{ℕ, _<_}
 use mathlib.Core.Bool.{Bool, false}
 use mathlib.Core.List.{List}

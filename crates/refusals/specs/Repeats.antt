@@ -1,6 +1,6 @@
 -- A code that stands earlier in a list (refusal 5 of document 01, "Build").
-use Prim.Native.Nat.{ℕ}
-use mathlib.Core.Bool.{Bool, false, _||_}
+use Prim.Native.Nat.{ℕ, _+_}
+use mathlib.Core.Bool.{Bool, false, _||_, cond}
 use mathlib.Core.List.{List, [], _∷_}
 use lib.Dec.{eqb}
 use lib.ListN.{getD, take}
@@ -13,6 +13,11 @@ mostPairs = 2048
 unfoldable pub among : ℕ → List ℕ → Bool
 among a [] = false
 among a (x ∷ codes) = eqb a x || among a codes
+
+-- how often a stands among these codes
+unfoldable pub timesIn : ℕ → List ℕ → ℕ
+timesIn a [] = 0
+timesIn a (x ∷ codes) = cond (eqb x a) 1 0 + timesIn a codes
 
 -- the code with index i is equal to an earlier one
 unfoldable pub repeated : List ℕ → ℕ → Bool

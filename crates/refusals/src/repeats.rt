@@ -1,9 +1,9 @@
 // Codes equal to an earlier one (refusal 5).
-ghost use Prim.Native.Nat.{_<_, _≤_};
+ghost use Prim.Native.Nat.{_≤_};
 ghost use mathlib.Core.Path.{_≡_};
 ghost use lib.ListN.{length, take};
-ghost use Rattle.table.specs.Answers.{firstOf, some};
-ghost use Rattle.refusals.specs.Repeats.{mostPairs, among, repeated};
+ghost use Rattle.table.specs.Answers.{firstOf};
+ghost use Rattle.refusals.specs.Repeats.{mostPairs, among, timesIn, repeated};
 ghost use Rattle.refusals.specs.Chains.{Chain};
 ghost use Rattle.refusals.specs.Marks.{Met};
 
@@ -50,32 +50,33 @@ fn first_by_chains(codes: &[u32]) -> usize
     i
 }
 
-// Whether the code with index i is equal to an earlier one: all of them are compared, without a branch.
-fn is_repeated(codes: &[u32], i: usize) -> bool
-    requires { ⌜ i < length (now codes) ⌝ }
-    ensures { λ r. ⌜ r ≡ repeated (now (codes .entry)) i ⌝ }
+// How often a is among the codes. All of them are compared, without a branch.
+fn times(codes: &[u32], a: u32) -> u32
+    requires { ⌜ length (now codes) ≤ mostPairs ⌝ }
+    ensures { λ r. ⌜ r ≡ timesIn a (now (codes .entry)) ⌝ }
 {
-    let a = codes[i];
-    let mut met = false;
+    let mut found: u32 = 0;
     let mut j = 0;
-    while j < i {
-        met = met | (a == codes[j]);
+    while j < codes.len() {
+        found += (codes[j] == a) as u32;
         j += 1;
     }
-    met
+    found
 }
 
-// Whether some code is equal to an earlier one, for a short list.
+// Whether some code is equal to an earlier one, for a short list: each code stands in it at least once, so that n are found in all where none is
+// repeated.
 fn some_repeated(codes: &[u32]) -> bool
-    ensures { λ r. ⌜ r ≡ some (length (now (codes .entry))) (repeated (now (codes .entry))) ⌝ }
+    requires { ⌜ length (now codes) ≤ mostPairs ⌝ }
+    ensures { λ r. ⌜ Met (now (codes .entry)) r ⌝ }
 {
-    let mut met = false;
+    let mut found: u32 = 0;
     let mut i = 0;
     while i < codes.len() {
-        met = met | is_repeated(codes, i);
+        found += times(codes, codes[i]);
         i += 1;
     }
-    met
+    found != (codes.len() as u32)
 }
 
 // Whether some code shares its residue mod 65,536 with an earlier one, by a bit for each residue. Where none does, no code is repeated.

@@ -1,22 +1,22 @@
--- The cells of a table, block by block: those of block j hold its own codes, each at its place in the block. A code of another
--- block has its own cell among that block's cells, before or after these.
-use Prim.Native.Nat.{ℕ, suc, _+_, _*_, _<_}
+-- The cells of a table, block by block: those of block j hold the values of its own codes, each at its code's place in the block. A code of
+-- another block has its own cell among that block's cells, before or after these.
+-- Assumes nothing.
+use Prim.Native.Nat.{ℕ, suc, _+_, _<_}
 use native.Mathlib.Decide.{ℕ-discrete, decLt}
 use native.Mathlib.Omega.{arith}
 use mathlib.Core.List.{List, [], _∷_, _++_}
 use mathlib.Core.Path.{_≡_, refl, sym, ap, _∙_}
 use lib.ListN.{length, getD}
 use Rattle.hash.specs.Hash.{hashOf, load, members}
-use Rattle.hash.proofs.Counting.{load-members}
 use Rattle.hash.proofs.Members.{members-in, members-out}
 use Rattle.table.specs.Words.{ownCell}
-use Rattle.table.specs.TwoLevel.{tabulate, startOf, heldIn, frontOf, blocksMultiplier, cellsMultiplier}
+use Rattle.table.specs.TwoLevel.{tabulate, startOf, heldIn}
 use Rattle.table.proofs.Tabulate.{tabulate-ext, tabulate-append}
-use Rattle.table.proofs.Front.{sizeOf, blockQ, ownOf, start-next, start-rises, Fronted, frontOf-fronted, own-is, own-from, own-below}
+use Rattle.table.proofs.Front.{sizeOf, blockQ, ownOf, start-next, start-rises, Fronted, own-is, own-from, own-below}
 use Rattle.table.proofs.Held.{held-here, held-later}
 use Rattle.table.proofs.Own.{listed-load}
-use Rattle.search.specs.Placed.{placed}
-use Rattle.search.proofs.PlacedLaws.{placed-here, placed-later}
+use Rattle.search.specs.Placed.{heldBy, valuesOf}
+use Rattle.search.proofs.PlacedLaws.{heldBy-here, heldBy-later, valuesOf-in, valuesOf-out, valuesOf-codes}
 
 module _ {p k : ℕ} {codes words : List ℕ} (f : Fronted p k codes words) (j : ℕ) (h : j < length codes) where
   -- a code of block j has its own cell at its place in the block
@@ -38,52 +38,61 @@ module _ {p k : ℕ} {codes words : List ℕ} (f : Fronted p k codes words) (j :
 
   -- of any codes whose blocks have cells
   pub held-placed :
-      (s : List ℕ) (t : ℕ) → t < sizeOf p k codes j
+      (s values : List ℕ) (t : ℕ) → length values ≡ length s → t < sizeOf p k codes j
       → ((x : ℕ) → x < length s → 0 < load p k (length codes) (hashOf p k (length codes) (getD s x 0)) codes)
-      → heldIn p words s s (startOf p k codes j + t)
-      ≡ placed p (blockQ p k codes j) (sizeOf p k codes j) (members p k (length codes) j s) t
-  unfolding heldIn placed members
-  held-placed [] t l some = refl
-  held-placed (a ∷ s) t l some =
+      → heldIn p words s values (startOf p k codes j + t)
+      ≡ heldBy p (blockQ p k codes j) (sizeOf p k codes j) (members p k (length codes) j s) (valuesOf p k (length codes) j s values) t
+  unfolding heldIn heldBy members
+  held-placed [] values t same l some = refl
+  held-placed (a ∷ s) [] t same l some = absurd (omega arith)
+  held-placed (a ∷ s) (v ∷ values) t same l some =
       let q : ℕ = blockQ p k codes j in
       let w : ℕ = sizeOf p k codes j in
       let i : ℕ = startOf p k codes j + t in
-      let rest : heldIn p words s s i ≡ placed p q w (members p k (length codes) j s) t =
-      held-placed s t l (λ x m. some (suc x) (omega arith)) in
+      let block : List ℕ = members p k (length codes) j s in
+      let theirs : List ℕ = valuesOf p k (length codes) j s values in
+      let rest : heldIn p words s values i ≡ heldBy p q w block theirs t =
+      held-placed s values t (omega arith) l (λ x m. some (suc x) (omega arith)) in
       elim (ℕ-discrete (hashOf p k (length codes) a) j) [
         | yes inside ↦
-            rw (members-in p k (length codes) j a s inside)
+            rw (members-in p k (length codes) j a s inside, valuesOf-in p k (length codes) j a v s values inside)
             (elim (ℕ-discrete (hashOf p q w a) t) [
               | yes e ↦
-                  held-here p words a a s s i (own-in a inside ∙ ap (λ (u : ℕ). startOf p k codes j + u) e)
-                  ∙ sym (placed-here p q w a (members p k (length codes) j s) t e)
+                  held-here p words a v s values i (own-in a inside ∙ ap (λ (u : ℕ). startOf p k codes j + u) e)
+                  ∙ sym (heldBy-here p q w a v block theirs t e)
               | no ne ↦
-                  held-later p words a a s s i (λ e. ne (omega (arith, own-in a inside)))
+                  held-later p words a v s values i (λ e. ne (omega (arith, own-in a inside)))
                   ∙ rest
-                  ∙ sym (placed-later p q w a (members p k (length codes) j s) t ne)
+                  ∙ sym (heldBy-later p q w a v block theirs t ne)
             ])
         | no outside ↦
-            rw (members-out p k (length codes) j a s outside)
-            (held-later p words a a s s i (own-out a t (some 0 (omega arith)) l outside) ∙ rest)
+            rw (members-out p k (length codes) j a s outside, valuesOf-out p k (length codes) j a v s values outside)
+            (held-later p words a v s values i (own-out a t (some 0 (omega arith)) l outside) ∙ rest)
       ]
 
   pub block-cells :
+      (values : List ℕ) → length values ≡ length codes
+      → tabulate (heldIn p words codes values) (startOf p k codes (suc j))
+      ≡ tabulate (heldIn p words codes values) (startOf p k codes j)
+      ++ tabulate
+      (heldBy p (blockQ p k codes j) (sizeOf p k codes j) (members p k (length codes) j codes) (valuesOf p k (length codes) j codes values))
+      (sizeOf p k codes j)
+  block-cells values same =
+      ap (tabulate (heldIn p words codes values)) (start-next p k codes j)
+      ∙ tabulate-append (heldIn p words codes values) (startOf p k codes j) (sizeOf p k codes j)
+      ∙ ap (λ (s : List ℕ). tabulate (heldIn p words codes values) (startOf p k codes j) ++ s)
+      (tabulate-ext _ _ (sizeOf p k codes j) (λ t l. held-placed codes values t same l (listed-load p k codes)))
+
+  -- of the codes themselves
+  pub held-codes :
+      (t : ℕ) → t < sizeOf p k codes j
+      → let block = members p k (length codes) j codes in
+      heldIn p words codes codes (startOf p k codes j + t) ≡ heldBy p (blockQ p k codes j) (sizeOf p k codes j) block block t
+  held-codes t l = rw (valuesOf-codes p k (length codes) j codes) at (held-placed codes codes t refl l (listed-load p k codes))
+
+  pub block-codes :
+      let block = members p k (length codes) j codes in
       tabulate (heldIn p words codes codes) (startOf p k codes (suc j))
       ≡ tabulate (heldIn p words codes codes) (startOf p k codes j)
-      ++ tabulate (placed p (blockQ p k codes j) (sizeOf p k codes j) (members p k (length codes) j codes)) (sizeOf p k codes j)
-  block-cells =
-      ap (tabulate (heldIn p words codes codes)) (start-next p k codes j)
-      ∙ tabulate-append (heldIn p words codes codes) (startOf p k codes j) (sizeOf p k codes j)
-      ∙ ap (λ (s : List ℕ). tabulate (heldIn p words codes codes) (startOf p k codes j) ++ s)
-      (tabulate-ext _ _ (sizeOf p k codes j) (λ t l. held-placed codes t l (listed-load p k codes)))
-
--- the same with the table's own front, k and q, and the block's codes counted
-pub front-block :
-    (p : ℕ) (codes : List ℕ) (j : ℕ) → j < length codes
-    → let k = blocksMultiplier p codes in
-    let block = members p k (length codes) j codes in
-    tabulate (heldIn p (frontOf p codes) codes codes) (startOf p k codes (suc j))
-    ≡ tabulate (heldIn p (frontOf p codes) codes codes) (startOf p k codes j)
-    ++ tabulate (placed p (cellsMultiplier p block) (length block * length block) block) (length block * length block)
-front-block p codes j h =
-    rw (load-members p (blocksMultiplier p codes) (length codes) j codes) (block-cells (frontOf-fronted p codes) j h)
+      ++ tabulate (heldBy p (blockQ p k codes j) (sizeOf p k codes j) block block) (sizeOf p k codes j)
+  block-codes = rw (valuesOf-codes p k (length codes) j codes) at (block-cells codes refl)

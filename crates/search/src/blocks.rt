@@ -32,7 +32,7 @@ fn count_cells(
     requires { ⌜ Ready p (length (now codes)) reciprocal ⌝ }
     ensures { λ r. ⌜ Counted p k (now (codes .entry)) r (now (blocks .exit)) (now (counts .exit)) ⌝ }
 {
-    crate::zeros::clear(counts);
+    crate::fill::fill(counts, 0);
     let n = codes.len() as u32;
     let most = 3 * n - 2;
     let mut c: u32 = 0;

@@ -2,11 +2,13 @@
 ghost use Prim.Native.Nat.{_<_, _≤_};
 ghost use mathlib.Core.Path.{_≡_};
 ghost use mathlib.Core.Bool.{cond};
+ghost use mathlib.Core.List.{[], _∷_};
 ghost use lib.Dec.{eqb};
 ghost use lib.ListN.{length, replicate};
 ghost use Rattle.hash.specs.Hash.{hashOf, together, Codes};
 ghost use Rattle.hash.specs.Contract.{Ready};
-ghost use Rattle.search.specs.Cells.{Unplaced, Placing, Tried, LeastCells};
+ghost use Rattle.search.specs.Cells.{square, Unplaced, Placing, Tried, Separated};
+ghost use Rattle.search.specs.Searchable.{Searchable};
 
 // 1 for true: a test that is added in place of a branch.
 pub fn one(test: bool) -> u32
@@ -51,17 +53,18 @@ fn place_block(p: u32, q: u32, reciprocal: u64, block: &[u32], cells: &mut [u32]
     true
 }
 
-// The least multiplier from 1 to p - 1 that puts the codes of a block in different cells, and the cells, which are all 0, filled by it. The
-// search never gives up: some multiplier separates the codes, so that the loop is left by its answer alone.
-fn cells_multiplier(p: u32, block: &[u32], cells: &mut [u32]) -> u32
+// The least multiplier from 1 to p - 1 that puts the codes of a block in different cells. They are placed in the cells, which are all 0 and come
+// back so. The search never gives up: some multiplier separates the codes, so that the loop is left by its answer alone.
+fn cells_multiplier(p: u32, reciprocal: u64, block: &[u32], cells: &mut [u32]) -> u32
     requires { ⌜ Unplaced p (now block) (now cells) ⌝ }
-    requires { ⌜ 0 < length (now block) ⌝ }
-    ensures { λ r. ⌜ LeastCells p (now (block .entry)) (now (cells .exit)) r ⌝ }
+    requires { ⌜ (0 < length (now block)) × Ready p (length (now cells)) reciprocal ⌝ }
+    ensures { λ r. ⌜ Separated p (now (block .entry)) r ⌝ }
+    ensures { λ _. ⌜ now (cells .exit) ≡ now (cells .entry) ⌝ }
 {
-    let reciprocal = hash::reciprocal(p, cells.len() as u32);
     let mut q = 1;
     while q < p {
         if place_block(p, q, reciprocal, block, cells) {
+            undo(p, q, cells.len() as u32, reciprocal, block, 0, cells);
             return q;
         }
         q += 1;
@@ -87,34 +90,17 @@ fn apart(p: u32, q: u32, w: u32, reciprocal: u64, block: &[u32]) -> bool
     shared == 0
 }
 
-// Puts the codes of a block in their cells, which are all 0, by a multiplier that separates them.
-fn fill(p: u32, q: u32, w: u32, reciprocal: u64, block: &[u32], cells: &mut [u32])
-    requires { ⌜ Codes p (now block) × ((q < p) × Ready p w reciprocal) ⌝ }
-    requires { ⌜ Placing p q w (now block) (length (now block)) (now cells) × (together p q w (now block) ≡ 0) ⌝ }
-    ensures { λ _. ⌜ Placing p q w (now (block .entry)) 0 (now (cells .exit)) ⌝ }
-{
-    let mut i = block.len();
-    while 0 < i {
-        i -= 1;
-        let a = block[i];
-        let t = hash::hash_below_by(p, q, w, reciprocal, a) as usize;
-        cells[t] = a;
-    }
-}
-
-// The same for a block of at most 8 codes, whose cells are the bits of one word: they are written once, by the multiplier that is found.
-fn few_multiplier(p: u32, block: &[u32], cells: &mut [u32]) -> u32
-    requires { ⌜ Unplaced p (now block) (now cells) ⌝ }
+// The same for a block of at most 8 codes, whose w cells are the bits of one word.
+fn few_multiplier(p: u32, w: u32, reciprocal: u64, block: &[u32]) -> u32
+    requires { ⌜ Searchable p (now block) × (w ≡ square (now block)) ⌝ }
     requires { ⌜ (0 < length (now block)) × (length (now block) ≤ 8) ⌝ }
-    ensures { λ r. ⌜ LeastCells p (now (block .entry)) (now (cells .exit)) r ⌝ }
+    requires { ⌜ Ready p w reciprocal ⌝ }
+    ensures { λ r. ⌜ Separated p (now (block .entry)) r ⌝ }
 {
-    let w = cells.len() as u32;
-    let reciprocal = hash::reciprocal(p, w);
     let mut q = 1;
     while !apart(p, q, w, reciprocal, block) {
         q += 1;
     }
-    fill(p, q, w, reciprocal, block, cells);
     q
 }
 
@@ -126,38 +112,30 @@ fn collide(p: u32, q: u32, a: u32, b: u32) -> bool
     hash::residue_below(p, q, a) % 4 == hash::residue_below(p, q, b) % 4
 }
 
-// The same for a block of two codes: nearly all have one of the first three multipliers, which is worked out without a branch.
-fn two_multiplier(p: u32, block: &[u32], cells: &mut [u32]) -> u32
-    requires { ⌜ Unplaced p (now block) (now cells) ⌝ }
-    requires { ⌜ length (now block) ≡ 2 ⌝ }
-    ensures { λ r. ⌜ LeastCells p (now (block .entry)) (now (cells .exit)) r ⌝ }
+// The least multiplier of two codes: nearly all have one of the first three, which is worked out without a branch. The multiplier 1 leaves a code as it
+// is.
+pub fn two_multiplier(p: u32, a: u32, b: u32) -> u32
+    requires { ⌜ Searchable p (a ∷ b ∷ []) ⌝ }
+    ensures { λ r. ⌜ Separated p (a ∷ b ∷ []) r ⌝ }
 {
-    let a = block[0];
-    let b = block[1];
-    let first = one(collide(p, 1, a, b));
+    let first = one(a % 4 == b % 4);
     let second = one(collide(p, 2, a, b));
     let mut q = 1 + first * (1 + second);
     while collide(p, q, a, b) {
         q += 1;
     }
-    let x = hash::residue_below(p, q, a) % 4;
-    let y = hash::residue_below(p, q, b) % 4;
-    cells[y as usize] = b;
-    cells[x as usize] = a;
     q
 }
 
-// The least multiplier of a block of more than one code, and its cells, which are all 0, filled by it.
-pub fn block_multiplier(p: u32, block: &[u32], cells: &mut [u32]) -> u32
+// The least multiplier of any block with a code. Its cells are all 0, may serve as marks, and come back as they were.
+pub fn more_multiplier(p: u32, reciprocal: u64, block: &[u32], cells: &mut [u32]) -> u32
     requires { ⌜ Unplaced p (now block) (now cells) ⌝ }
-    requires { ⌜ 1 < length (now block) ⌝ }
-    ensures { λ r. ⌜ LeastCells p (now (block .entry)) (now (cells .exit)) r ⌝ }
+    requires { ⌜ (0 < length (now block)) × Ready p (length (now cells)) reciprocal ⌝ }
+    ensures { λ r. ⌜ Separated p (now (block .entry)) r ⌝ }
+    ensures { λ _. ⌜ now (cells .exit) ≡ now (cells .entry) ⌝ }
 {
-    if block.len() == 2 {
-        return two_multiplier(p, block, cells);
-    }
     if block.len() <= 8 {
-        return few_multiplier(p, block, cells);
+        return few_multiplier(p, cells.len() as u32, reciprocal, block);
     }
-    cells_multiplier(p, block, cells)
+    cells_multiplier(p, reciprocal, block, cells)
 }

@@ -1,4 +1,4 @@
 // The least k of a list, and the least q of a block.
 pub mod blocks;
 pub mod cells;
-pub mod zeros;
+pub mod fill;

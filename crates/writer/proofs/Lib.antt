@@ -1,10 +1,8 @@
 -- What the proofs of the functions cite, by topic.
-mod Groups
-mod Parts
+mod Starts
 mod Runs
-mod Singles
-mod Choosing
 mod Listing
+mod Vacancies
 mod Pending
+mod Fronts
 mod Assembly
-mod Storing

@@ -1,88 +1,119 @@
--- The blocks of two codes and those of more, listed apart: together they are the blocks of more than one code, each of them once. What is left of a
--- list when its first block is taken off.
+-- The blocks of one kind, told by how many codes they have, listed and written one after the other: what is left of the list is pending, and all
+-- blocks that have more codes.
 -- Assumes nothing.
-use Prim.Native.Nat.{ℕ, suc, _+_, _-_, _<_, _≤_}
+use Prim.Native.Nat.{ℕ, suc, _+_, _*_, _<_, _≤_}
 use mathlib.Core.Bool.{Bool, true, false, _||_}
-use mathlib.Core.List.{List, [], _∷_, _++_, append-nil}
-use mathlib.Core.Path.{_≡_, refl, sym, ap, _∙_}
+use mathlib.Core.List.{List, [], _∷_}
+use mathlib.Core.Path.{_≡_, refl, sym, ap, ap₂, _∙_}
 use native.Mathlib.Decide.{ℕ-discrete, decLt}
 use native.Mathlib.Numerals.{add-one}
 use native.Mathlib.Omega.{arith}
-use borrow.Author.Tests.{eq-eqb, ne-eqb, lt-ltb, le-ltb, eqb-true, ltb-true}
+use borrow.Author.Tests.{eq-eqb, ne-eqb, lt-ltb, le-ltb, eqb-true}
 use lib.Dec.{eqb, ltb}
-use lib.ListN.{length, getD, take, drop}
+use lib.ListN.{length, getD, drop, drop-of-length-le}
 use lib.Seq.{drop-cons}
 use Rattle.refusals.specs.Repeats.{among}
-use Rattle.refusals.proofs.Among.{among-append}
-use Rattle.writer.specs.Writing.{sizeAt, chosen, ListedApart, Listed}
-use Rattle.writer.proofs.Choosing.{chosen-below, chosen-among, chosen-once}
+use Rattle.groups.specs.Grouping.{chosen}
+use Rattle.writer.specs.Writing.{sizeAt, groupAt, startAt, tableBut, Groups, Vacant, blockIn}
+use Rattle.groups.proofs.Choosing.{chosen-below, chosen-among, chosen-once}
+use Rattle.writer.proofs.Pending.{start-is, one-stands, pending-vacant, pending-written, pending-same}
 
--- ---- the next block of a list
+-- the sizes of the blocks that are listed, of those that stay pending, and of both
+pub record Kinds (kind rest both : ℕ → Bool) : Type 0 where
+  pub apart : (m : ℕ) → kind m ≡ true → rest m ≡ false
+  pub together : (m : ℕ) → kind m || rest m ≡ both m
 
-module _ (listed later : List ℕ) (t : ℕ) (l : t < length listed) where
-  next-is : drop t listed ++ later ≡ getD listed t 0 ∷ (drop (t + 1) listed ++ later)
-  next-is = ap (λ (s : List ℕ). s ++ later) (drop-cons listed t 0 l) ∙ ap (λ (i : ℕ). getD listed t 0 ∷ (drop i listed ++ later)) (sym (add-one t))
+-- block j is of the kind and is to be written next
+pub record Next (kind : ℕ → Bool) (p n c : ℕ) (at grouped paired : List ℕ) (j : ℕ) (words : List ℕ) : Type 0 where
+  pub below : j < n
+  pub sized : kind (sizeAt at j) ≡ true
+  pub start : getD words (3 + j) 0 ≡ startAt at j
+  pub one : getD words (3 + n + j) 0 ≡ 1
+  pub vacant : Vacant p (groupAt at grouped j) (groupAt at paired j) c (3 + n + j) (3 + 2 * n + startAt at j) words
 
-  pub next-waits : among (getD listed t 0) (drop t listed ++ later) ≡ true
-  unfolding among
-  next-waits = ap (among (getD listed t 0)) next-is ∙ rw (eq-eqb (getD listed t 0) (getD listed t 0) refl) refl
-
-  pub next-other : (i : ℕ) → (i ≡ getD listed t 0 → ⊥) → among i (drop (t + 1) listed ++ later) ≡ among i (drop t listed ++ later)
-  unfolding among
-  next-other i ne = sym (ap (among i) next-is ∙ rw (ne-eqb i (getD listed t 0) ne) refl)
-
-  pub next-written : {n : ℕ} {at : List ℕ} → Listed n at listed later → among (getD listed t 0) (drop (t + 1) listed ++ later) ≡ false
-  next-written h = rw (add-one t) (h .once t l)
-
--- ---- two lists
-
-module _ {n : ℕ} {at : List ℕ} {t : ℕ} {twos : List ℕ} {s : ℕ} {mores : List ℕ} (a : ListedApart n at t twos s mores) where
-  abbrev two : ℕ → Bool
-  two j = eqb (sizeAt at j) 2
-
-  abbrev more : ℕ → Bool
-  more j = ltb 2 (sizeAt at j)
-
-  pub twos-listed : Listed n at (take t twos) (take s mores)
-  twos-listed =
-      rw (a .twos-are, a .mores-are)
-      (record {
-        inside = λ i l. chosen-below two n i l .0;
-        large = λ i l. omega (arith, eqb-true (sizeAt at (getD (chosen two n) i 0)) 2 (chosen-below two n i l .1));
-        once = λ i l.
-            let j : ℕ = getD (chosen two n) i 0 in
-            let h = chosen-below two n i l in
-            among-append j (drop (suc i) (chosen two n)) (chosen more n)
-            ∙ rw (
-              chosen-once two n i l,
-              chosen-among more n j (h .0),
-              le-ltb 2 (sizeAt at j) (omega (arith, eqb-true (sizeAt at j) 2 (h .1))),
-            )
-            refl;
-      })
-
-  pub mores-listed : Listed n at (take s mores) (take 0 twos)
-  mores-listed =
-      rw (a .mores-are)
-      (record {
-        inside = λ i l. chosen-below more n i l .0;
-        large = λ i l. omega (arith, ltb-true 2 (sizeAt at (getD (chosen more n) i 0)) (chosen-below more n i l .1));
-        once = λ i l.
-            ap (among (getD (chosen more n) i 0)) (append-nil (drop (suc i) (chosen more n))) ∙ chosen-once more n i l;
-      })
-
-  pub apart-pending : (j : ℕ) → j < n → among j (take t twos ++ take s mores) ≡ ltb 1 (sizeAt at j)
-  apart-pending j l =
-      among-append j (take t twos) (take s mores)
-      ∙ rw (a .twos-are, a .mores-are, chosen-among two n j l, chosen-among more n j l) (either (sizeAt at j))
-    where
-      either : (m : ℕ) → eqb m 2 || ltb 2 m ≡ ltb 1 m
-      either m =
-          elim (ℕ-discrete m 2) [
-            | yes e ↦ rw e refl
+-- blocks of one size, before those that are larger
+pub one-size : (s : ℕ) → Kinds (λ m. eqb m (suc s)) (ltb (suc s)) (ltb s)
+one-size s =
+    record {
+      apart = λ m e. le-ltb (suc s) m (omega (arith, eqb-true m (suc s) e));
+      together = λ m.
+          elim (ℕ-discrete m (suc s)) [
+            | yes e ↦ rw (eq-eqb m (suc s) e, lt-ltb s m (omega arith)) refl
             | no ne ↦
-                elim (decLt 2 m) [
-                  | yes l ↦ rw (ne-eqb m 2 ne, lt-ltb 2 m l, lt-ltb 1 m (omega arith)) refl
-                  | no ge ↦ rw (ne-eqb m 2 ne, le-ltb 2 m (omega arith), le-ltb 1 m (omega arith)) refl
+                elim (decLt (suc s) m) [
+                  | yes l ↦ rw (ne-eqb m (suc s) ne, lt-ltb (suc s) m l, lt-ltb s m (omega arith)) refl
+                  | no ge ↦ rw (ne-eqb m (suc s) ne, le-ltb (suc s) m (omega arith), le-ltb s m (omega arith)) refl
                 ]
-          ]
+          ];
+    }
+
+-- all that are left
+pub last-sizes : (s : ℕ) → Kinds (ltb s) (λ m. false) (ltb s)
+last-sizes s = record { apart = λ m e. refl; together = λ m. or-no (ltb s m) }
+  where
+    or-no : (b : Bool) → b || false ≡ b
+    or-no true = refl
+    or-no false = refl
+
+module _
+    {kind rest both : ℕ → Bool} (kinds : Kinds kind rest both) {p n c : ℕ} {at grouped paired : List ℕ} (g : Groups p n c at grouped paired)
+    (k : ℕ) {listed : List ℕ} (are : listed ≡ chosen (λ j. kind (sizeAt at j)) n)
+  where
+    -- what is pending when the first t are written
+    abbrev waiting : ℕ → ℕ → Bool
+    waiting t j = among j (drop t listed) || rest (sizeAt at j)
+
+    abbrev pub Written : ℕ → List ℕ → Type 0
+    Written t words = words ≡ tableBut p n c k at grouped paired (λ j. among j (drop t listed) || rest (sizeAt at j))
+
+    pub listed-start : {words : List ℕ} → words ≡ tableBut p n c k at grouped paired (λ j. both (sizeAt at j)) → Written 0 words
+    listed-start is =
+        is
+        ∙ pending-same p n c k at grouped paired (λ j. both (sizeAt at j)) (waiting 0)
+        (λ j l.
+        sym (kinds .together (sizeAt at j))
+        ∙ ap (λ (b : Bool). b || rest (sizeAt at j)) (sym (ap (among j) are ∙ chosen-among (λ i. kind (sizeAt at i)) n j l)))
+
+    pub listed-all : (t : ℕ) {words : List ℕ} → Written t words → length listed ≤ t → words ≡ tableBut p n c k at grouped paired (λ j. rest (sizeAt at j))
+    unfolding among
+    listed-all t {words} is end = is ∙ rw (drop-of-length-le listed {i = t} end) refl
+
+    module _ {t : ℕ} {words : List ℕ} (is : Written t words) (l : t < length listed) where
+      choice : (getD listed t 0 < n) × (kind (sizeAt at (getD listed t 0)) ≡ true)
+      choice = rw are (chosen-below (λ j. kind (sizeAt at j)) n t (rw are at l))
+
+      -- it is waiting; once it is written it is not, and every other block is as it was
+      rest-is : drop t listed ≡ getD listed t 0 ∷ drop (t + 1) listed
+      rest-is = drop-cons listed t 0 l ∙ ap (λ (i : ℕ). getD listed t 0 ∷ drop i listed) (sym (add-one t))
+
+      waits : waiting t (getD listed t 0) ≡ true
+      unfolding among
+      waits = rw (rest-is, eq-eqb (getD listed t 0) (getD listed t 0) refl) refl
+
+      done : waiting (t + 1) (getD listed t 0) ≡ false
+      done =
+          let once : among (getD listed t 0) (drop (t + 1) listed) ≡ false =
+          rw (add-one t, are) (chosen-once (λ j. kind (sizeAt at j)) n t (rw are at l)) in
+          ap₂ (λ (a b : Bool). a || b) once (kinds .apart (sizeAt at (getD listed t 0)) (choice .1))
+
+      other : (i : ℕ) → (i ≡ getD listed t 0 → ⊥) → waiting (t + 1) i ≡ waiting t i
+      unfolding among
+      other i ne = sym (rw (rest-is, ne-eqb i (getD listed t 0) ne) refl)
+
+      pub next-block : Next kind p n c at grouped paired (getD listed t 0) words
+      next-block =
+          record {
+            below = choice .0;
+            sized = choice .1;
+            start = start-is g k (waiting t) (getD listed t 0) (choice .0) is;
+            one = one-stands g k (waiting t) (getD listed t 0) (choice .0) is waits;
+            vacant = pending-vacant g k (waiting t) (getD listed t 0) (choice .0) is waits;
+          }
+
+      pub listed-more :
+          {new : List ℕ}
+          → new
+          ≡ blockIn p (groupAt at grouped (getD listed t 0)) (groupAt at paired (getD listed t 0)) c (3 + n + getD listed t 0)
+          (3 + 2 * n + startAt at (getD listed t 0)) words
+          → Written (t + 1) new
+      listed-more new-is = new-is ∙ pending-written g k (waiting t) (waiting (t + 1)) (getD listed t 0) (choice .0) is waits done (λ i v ne. other i ne)

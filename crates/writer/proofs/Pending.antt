@@ -1,69 +1,103 @@
 -- A table whose pending blocks are written one at a time: where a block's cells lie, that they are 0 while it is pending, and what the words are once
 -- it is written.
 -- Assumes nothing.
-use Prim.Native.Nat.{ℕ, suc, _+_, _*_, _-_, _<_, _≤_}
+use Prim.Native.Nat.{ℕ, _+_, _*_, _-_, _<_, _≤_}
 use mathlib.Core.Bool.{Bool, true, false, cond}
 use mathlib.Core.List.{List, [], _∷_, _++_, append-assoc}
 use mathlib.Core.Logic.{inl, inr}
 use mathlib.Core.Path.{_≡_, refl, sym, ap, ap₂, _∙_}
-use native.Mathlib.Decide.{ℕ-discrete, decLt}
+use native.Mathlib.Decide.{ℕ-discrete}
 use native.Mathlib.Omega.{arith}
-use borrow.Author.Tests.{eq-eqb, ne-eqb, lt-ltb, le-ltb}
-use lib.Dec.{ltb}
-use lib.ListN.{length, getD, take, drop, set, replicate, length-append, length-drop, length-replicate, List·getD-append}
-use lib.Seq.{drop-cons, length-take-le, set-append-left, getD-append-add}
-use Rattle.hash.specs.Hash.{sum}
+use borrow.Author.Tests.{lt-ltb, le-ltb}
+use lib.ListN.{length, getD, take, drop, set, replicate, length-append, length-drop, length-replicate}
+use lib.Seq.{take-at, drop-at, length-take-le, getD-append-add}
 use Rattle.hash.proofs.Indicators.{true-or-false}
-use Rattle.table.specs.TwoLevel.{tabulate}
-use Rattle.table.proofs.Tabulate.{tabulate-length, tabulate-ext, tabulate-set, tabulate-head}
-use Rattle.search.specs.Cells.{square, placedBy, Unplaced, LeastCells}
-use Rattle.search.specs.Placed.{placed}
-use Rattle.search.proofs.LeastCells.{cells-one, cells-none}
-use Rattle.writer.specs.Writing.{sizeAt, groupAt, startAt, multiplierAt, runs, singleAt, multiplierBut, cellsBut, tableBut, Groups, Vacant, blockIn}
-use Rattle.writer.proofs.Groups.{sum-grows}
-use Rattle.writer.proofs.Parts.{part-is, part-back, set-past}
+use Rattle.table.specs.TwoLevel.{tabulate, cellsMultiplier}
+use Rattle.table.proofs.Tabulate.{tabulate-length, tabulate-ext, tabulate-set, tabulate-head, tabulate-past}
+use Rattle.search.specs.Cells.{square, filledBy}
+use Rattle.search.specs.Placed.{heldBy}
+use Rattle.search.proofs.LeastCells.{cells-none}
+use Rattle.writer.specs.Writing.{sizeAt, groupAt, startAt, multiplierAt, runs, multiplierBut, cellsBut, tableBut, Groups, above, Vacant, blockIn}
+use Rattle.groups.specs.Spread.{spreadIn}
+use Rattle.groups.proofs.Parts.{part-is, part-back, set-in}
 use Rattle.writer.proofs.Runs.{runs-ext, after, runs-split, after-ext, runs-length}
-use Rattle.writer.proofs.Singles.{start-next}
 
--- ---- one block
+-- ---- tables whose blocks are the same
 
-module _ {p : ℕ} {block : List ℕ} {j start : ℕ} {words : List ℕ} (v : Vacant p block j start words) where
-  -- the part that its cells take
-  same-size : start + square block - start ≡ square block
-  same-size = omega arith
+module _ (p n c k : ℕ) (at grouped paired : List ℕ) (f g : ℕ → Bool) where
+  -- block j, whatever values are listed with its codes
+  abbrev Alike : ℕ → Type 0
+  Alike j =
+      (multiplierBut p at grouped f j ≡ multiplierBut p at grouped g j)
+      × ((values : List ℕ) → cellsBut p at grouped values f j ≡ cellsBut p at grouped values g j)
 
-  pub vacant-part : Unplaced p block (take (start + square block - start) (drop start words))
-  vacant-part = record { codes = v .codes; zeros = rw same-size (v .zeros) }
+  alike : (j : ℕ) → f j ≡ g j → Alike j
+  alike j e = (
+    ap (λ (b : Bool). cond b 1 (multiplierAt p at grouped j)) e,
+    λ values.
+        ap (λ (b : Bool).
+        cond b (replicate (sizeAt at j * sizeAt at j) 0) (filledBy p (multiplierAt p at grouped j) (groupAt at grouped j) (groupAt at values j)))
+        e,
+  )
 
-  pub vacant-written :
-      (q : ℕ) (part : List ℕ) → LeastCells p block part q
-      → set (take start words ++ (part ++ drop (start + square block - start) (drop start words))) j q ≡ blockIn p block j start words
-  vacant-written q part found = rw (same-size, found .filled, found .multiplier) refl
+  tables-same : ((j : ℕ) → j < n → Alike j) → tableBut p n c k at grouped paired f ≡ tableBut p n c k at grouped paired g
+  tables-same same =
+      let cells : (values : List ℕ) → runs (cellsBut p at grouped values f) n ≡ runs (cellsBut p at grouped values g) n =
+      λ values. runs-ext (cellsBut p at grouped values f) (cellsBut p at grouped values g) n (λ j l. same j l .1 values) in
+      ap₂ (λ (s t : List ℕ). (n ∷ c ∷ k ∷ []) ++ (tabulate (startAt at) n ++ (s ++ t)))
+      (tabulate-ext (multiplierBut p at grouped f) (multiplierBut p at grouped g) n (λ j l. same j l .0))
+      (ap₂ (λ (s t : List ℕ). s ++ t) (cells grouped) (cells paired))
 
--- ---- the pending blocks
+  pub pending-same : ((j : ℕ) → j < n → f j ≡ g j) → tableBut p n c k at grouped paired f ≡ tableBut p n c k at grouped paired g
+  pending-same same = tables-same (λ j l. alike j (same j l))
 
-placed-length : (p q : ℕ) (block : List ℕ) → length (placedBy p q block) ≡ length block * length block
-placed-length p q block = tabulate-length (placed p q (length block * length block) block) (length block * length block)
+-- ---- where a block's cells lie
 
-module _ {p n : ℕ} {at grouped : List ℕ} (g : Groups p n at grouped) where
+gathered :
+    (h s m a f x b g y : List ℕ)
+    → h ++ (s ++ (m ++ ((a ++ (f ++ x)) ++ (b ++ (g ++ y))))) ≡ ((h ++ s) ++ (m ++ a)) ++ ((f ++ ((x ++ b) ++ g)) ++ y)
+gathered h s m a f x b g y = simp append-assoc refl
+
+regathered :
+    (h m : List ℕ) {a a₁ f f₁ x x₁ b b₁ g g₁ y y₁ : List ℕ} → a ≡ a₁ → f ≡ f₁ → x ≡ x₁ → b ≡ b₁ → g ≡ g₁ → y ≡ y₁
+    → h ++ (m ++ (a ++ ((f ++ ((x ++ b) ++ g)) ++ y))) ≡ (h ++ (m ++ a₁)) ++ ((f₁ ++ ((x₁ ++ b₁) ++ g₁)) ++ y₁)
+regathered h m ea ef ex eb eg ey = rw (ea, ef, ex, eb, eg, ey) (simp append-assoc refl)
+
+filled-length : (p q : ℕ) (block values : List ℕ) → length (filledBy p q block values) ≡ square block
+filled-length p q block values = tabulate-length (heldBy p q (square block) block values) (square block)
+
+module _ {p n c : ℕ} {at grouped paired : List ℕ} (g : Groups p n c at grouped paired) where
+  values-length : (j : ℕ) (values : List ℕ) → getD at (j + 1) 0 ≤ length values → length (groupAt at values j) ≡ sizeAt at j
+  values-length j values within = length-take-le (sizeAt at j) (drop (getD at j 0) values) (omega (arith, length-drop (getD at j 0) values))
+
   pub group-length : (j : ℕ) → j < n → length (groupAt at grouped j) ≡ sizeAt at j
-  group-length j l =
-      length-take-le (sizeAt at j) (drop (getD at j 0) grouped) (omega (arith, length-drop (getD at j 0) grouped, g .within j l))
+  group-length j l = values-length j grouped (g .within j l .0)
 
-  cells-length : (pending : ℕ → Bool) (j : ℕ) → j < n → length (cellsBut p at grouped pending j) ≡ sizeAt at j * sizeAt at j
-  cells-length pending j l =
+  cells-length : (values : List ℕ) (pending : ℕ → Bool) (j : ℕ) → j < n → length (cellsBut p at grouped values pending j) ≡ sizeAt at j * sizeAt at j
+  cells-length values pending j l =
       elim (true-or-false (pending j)) [
         | inl e ↦ rw e (length-replicate {A = ℕ} (sizeAt at j * sizeAt at j) 0)
         | inr e ↦
             rw e
-            (placed-length p (multiplierAt p at grouped j) (groupAt at grouped j) ∙ ap (λ (m : ℕ). m * m) (group-length j l))
+            (filled-length p (multiplierAt p at grouped j) (groupAt at grouped j) (groupAt at values j)
+            ∙ ap (λ (m : ℕ). m * m) (group-length j l))
       ]
 
-  module _ (c k : ℕ) (pending : ℕ → Bool) (j : ℕ) (l : j < n) where
-    abbrev f : ℕ → List ℕ
-    f = cellsBut p at grouped pending
+  -- the cells of the first blocks
+  runs-size :
+      (values : List ℕ) (pending : ℕ → Bool) (j : ℕ) → j ≤ n → length (runs (cellsBut p at grouped values pending) j) ≡ startAt at j
+  unfolding startAt
+  runs-size values pending j l =
+      runs-length (cellsBut p at grouped values pending) (λ t. sizeAt at t * sizeAt at t) j (λ i m. cells-length values pending i (omega arith))
 
-    -- what stands before its cells, up to the multipliers, and what stands after them
+  module _ (k : ℕ) (pending : ℕ → Bool) (j : ℕ) (l : j < n) where
+    abbrev F : ℕ → List ℕ
+    F = cellsBut p at grouped grouped pending
+
+    abbrev G : ℕ → List ℕ
+    G = cellsBut p at grouped paired pending
+
+    -- what stands before a block's first cells, up to the multipliers, between the first and the second, and after those
     abbrev front : List ℕ
     front = (n ∷ c ∷ k ∷ []) ++ tabulate (startAt at) n
 
@@ -71,161 +105,196 @@ module _ {p n : ℕ} {at grouped : List ℕ} (g : Groups p n at grouped) where
     multipliers = tabulate (multiplierBut p at grouped pending) n
 
     abbrev pre : List ℕ
-    pre = front ++ (multipliers ++ runs f j)
+    pre = front ++ (multipliers ++ runs F j)
+
+    abbrev mid : List ℕ
+    mid = after F n j ++ runs G j
 
     abbrev post : List ℕ
-    post = after f n j ++ replicate c 0
+    post = after G n j
 
     front-length : length front ≡ 3 + n
     front-length = omega (arith, tabulate-length (startAt at) n)
 
     pre-length : length pre ≡ 3 + 2 * n + startAt at j
-    unfolding startAt
     pre-length =
         omega (
           arith,
-          length-append front (multipliers ++ runs f j),
-          length-append multipliers (runs f j),
+          length-append front (multipliers ++ runs F j),
+          length-append multipliers (runs F j),
           front-length,
           tabulate-length (multiplierBut p at grouped pending) n,
-          runs-length f (λ t. sizeAt at t * sizeAt at t) j (λ i m. cells-length pending i (omega arith)),
+          runs-size grouped pending j (omega arith),
         )
 
-    split : tableBut p n c k at grouped pending ≡ pre ++ (f j ++ post)
-    split =
-        ap (λ (s : List ℕ). (n ∷ c ∷ k ∷ []) ++ (tabulate (startAt at) n ++ (multipliers ++ (s ++ replicate c 0)))) (runs-split f n j l)
-        ∙ simp append-assoc refl
+    mid-length : length mid + sizeAt at j * sizeAt at j ≡ c
+    mid-length =
+        omega (
+          arith,
+          length-append (after F n j) (runs G j),
+          ap length (runs-split F n j l),
+          length-append (runs F j) (F j ++ after F n j),
+          length-append (F j) (after F n j),
+          cells-length grouped pending j l,
+          runs-size grouped pending j (omega arith),
+          runs-size grouped pending n (omega arith),
+          runs-size paired pending j (omega arith),
+          g .cells-are,
+        )
 
-    module _ {words : List ℕ} (is : words ≡ tableBut p n c k at grouped pending) where
+    split : tableBut p n c k at grouped paired pending ≡ pre ++ ((F j ++ (mid ++ G j)) ++ post)
+    split =
+        ap₂ (λ (s t : List ℕ). (n ∷ c ∷ k ∷ []) ++ (tabulate (startAt at) n ++ (multipliers ++ (s ++ t)))) (runs-split F n j l) (runs-split G n j l)
+        ∙ gathered (n ∷ c ∷ k ∷ []) (tabulate (startAt at) n) multipliers (runs F j) (F j) (after F n j) (runs G j) (G j) post
+
+    -- while it is pending
+
+    module _ {words : List ℕ} (is : words ≡ tableBut p n c k at grouped paired pending) where
+      abbrev block : List ℕ
+      block = groupAt at grouped j
+
+      abbrev values : List ℕ
+      values = groupAt at paired j
+
+      abbrev start : ℕ
+      start = 3 + 2 * n + startAt at j
+
+      abbrev behind : List ℕ
+      behind = runs F n ++ runs G n
+
       pub start-is : getD words (3 + j) 0 ≡ startAt at j
       start-is =
           ap (λ (s : List ℕ). getD s (3 + j) 0) is
-          ∙ getD-append-add (n ∷ c ∷ k ∷ []) (tabulate (startAt at) n ++ (multipliers ++ (runs f n ++ replicate c 0))) j 0
-          ∙ tabulate-head (startAt at) n j (multipliers ++ (runs f n ++ replicate c 0)) l
+          ∙ getD-append-add (n ∷ c ∷ k ∷ []) (tabulate (startAt at) n ++ (multipliers ++ behind)) j 0
+          ∙ tabulate-head (startAt at) n j (multipliers ++ behind) l
 
-      module _ (waits : pending j ≡ true) (large : 1 < sizeAt at j) where
-        block-size : square (groupAt at grouped j) ≡ sizeAt at j * sizeAt at j
+      module _ (waits : pending j ≡ true) where
+        pub one-stands : getD words (3 + n + j) 0 ≡ 1
+        one-stands =
+            let at-is : 3 + n + j ≡ 3 + (n + j) = omega arith in
+            ap₂ (λ (s : List ℕ) (i : ℕ). getD s i 0) is at-is
+            ∙ getD-append-add (n ∷ c ∷ k ∷ []) (tabulate (startAt at) n ++ (multipliers ++ behind)) (n + j) 0
+            ∙ tabulate-past (startAt at) n j (multipliers ++ behind)
+            ∙ tabulate-head (multiplierBut p at grouped pending) n j behind l
+            ∙ rw waits refl
+
+        block-size : square block ≡ sizeAt at j * sizeAt at j
         block-size = ap (λ (m : ℕ). m * m) (group-length j l)
 
-        parts : words ≡ pre ++ (replicate (square (groupAt at grouped j)) 0 ++ post)
-        parts =
-            let empty : f j ≡ replicate (square (groupAt at grouped j)) 0 =
-            rw waits (ap (λ (m : ℕ). replicate {A = ℕ} m 0) (sym block-size)) in
-            is ∙ split ∙ ap (λ (s : List ℕ). pre ++ (s ++ post)) empty
+        abbrev zeros : List ℕ
+        zeros = replicate (square block) 0
 
-        pub pending-vacant : Vacant p (groupAt at grouped j) (3 + n + j) (3 + 2 * n + startAt at j) words
+        zeros-length : length zeros ≡ square block
+        zeros-length = length-replicate {A = ℕ} (square block) 0
+
+        -- the words from its first cells to its second
+        abbrev window : List ℕ
+        window = zeros ++ (mid ++ zeros)
+
+        window-length : length window ≡ c + square block
+        window-length =
+            omega (
+              arith,
+              length-append zeros (mid ++ zeros),
+              length-append mid zeros,
+              zeros-length,
+              mid-length,
+              block-size,
+            )
+
+        parts : words ≡ pre ++ (window ++ post)
+        parts =
+            let empty : (of : List ℕ) → cellsBut p at grouped of pending j ≡ zeros = λ of. rw waits (ap (λ (m : ℕ). replicate {A = ℕ} m 0) (sym block-size)) in
+            is ∙ split ∙ ap₂ (λ (s t : List ℕ). pre ++ ((s ++ (mid ++ t)) ++ post)) (empty grouped) (empty paired)
+
+        window-is : take (c + square block) (drop start words) ≡ window
+        window-is =
+            part-is words pre window post parts start (c + square block) (pre-length) window-length
+
+        pub pending-vacant : Vacant p block values c (3 + n + j) start words
         pending-vacant =
-            let m : ℕ = square (groupAt at grouped j) in
             record {
               codes = g .codes j l;
-              some = omega (arith, group-length j l);
               apart = omega arith;
               enough =
                   omega (
                     arith,
                     ap length parts,
-                    length-append pre (replicate m 0 ++ post),
-                    length-append (replicate m 0) post,
-                    length-replicate {A = ℕ} m 0,
+                    length-append pre (window ++ post),
+                    length-append window post,
+                    window-length,
                     pre-length,
                   );
-              zeros = part-is words pre (replicate m 0) post parts (3 + 2 * n + startAt at j) m pre-length (length-replicate {A = ℕ} m 0);
+              cleared =
+                  rw window-is
+                  (record {
+                    parallel = values-length j paired (g .within j l .1) ∙ sym (group-length j l);
+                    inside = omega (arith, mid-length, block-size);
+                    sized = window-length;
+                    first = take-at zeros (mid ++ zeros) (square block) zeros-length;
+                    second =
+                        ap (drop c) (sym (append-assoc zeros mid zeros))
+                        ∙ drop-at (zeros ++ mid) zeros c
+                        (omega (arith, length-append zeros mid, zeros-length, mid-length, block-size));
+                  });
             }
 
-        -- once it is written it is pending no more, and every other block is as it was
-        pub pending-written :
-            (next : ℕ → Bool) → next j ≡ false → ((i : ℕ) → i < n → (i ≡ j → ⊥) → next i ≡ pending i)
-            → blockIn p (groupAt at grouped j) (3 + n + j) (3 + 2 * n + startAt at j) words ≡ tableBut p n c k at grouped next
-        pending-written next written other =
-            let m : ℕ = square (groupAt at grouped j) in
-            let q : ℕ = multiplierAt p at grouped j in
-            let h : ℕ → List ℕ = cellsBut p at grouped next in
-            let own : h j ≡ placedBy p q (groupAt at grouped j) = rw written refl in
-            let same :
-            (i : ℕ) → i < n → (i ≡ j → ⊥) → f i ≡ h i =
-            λ i v ne.
-            ap (λ (b : Bool). cond b (replicate (sizeAt at i * sizeAt at i) 0) (placedBy p (multiplierAt p at grouped i) (groupAt at grouped i)))
-            (sym (other i v ne)) in
-            let before : runs f j ≡ runs h j = runs-ext f h j (λ i v. same i (omega arith) (λ e. omega arith)) in
-            let behind : after f n j ≡ after h n j = after-ext f h n j same in
-            let turned : q ≡ multiplierBut p at grouped next j = rw written refl in
-            let multiplied : set multipliers j q ≡ tabulate (multiplierBut p at grouped next) n =
-            ap (set multipliers j) turned
-            ∙ tabulate-set (multiplierBut p at grouped pending) (multiplierBut p at grouped next) n j l
-            (λ i v ne. ap (λ (b : Bool). cond b 1 (multiplierAt p at grouped i)) (other i v ne)) in
-            let placed-in : List ℕ = placedBy p q (groupAt at grouped j) in
-            ap (λ (s : List ℕ). set s (3 + n + j) q)
-            (part-back words pre (replicate m 0) post parts (3 + 2 * n + startAt at j) m pre-length (length-replicate {A = ℕ} m 0) placed-in
-            ∙ append-assoc front (multipliers ++ runs f j) (placed-in ++ post)
-            ∙ ap (λ (s : List ℕ). front ++ s) (append-assoc multipliers (runs f j) (placed-in ++ post)))
-            ∙ set-past front (multipliers ++ (runs f j ++ (placed-in ++ post))) (3 + n) j q front-length
-            ∙ ap (λ (s : List ℕ). front ++ s)
-            (set-append-left multipliers (runs f j ++ (placed-in ++ post)) j q
-            (omega (arith, tabulate-length (multiplierBut p at grouped pending) n))
-            ∙ ap₂ (λ (s t : List ℕ). s ++ t) multiplied
-            (ap₂ (λ (s t : List ℕ). s ++ (placed-in ++ (t ++ replicate c 0))) before behind
-            ∙ ap (λ (s : List ℕ). runs h j ++ (s ++ (after h n j ++ replicate c 0))) (sym own)
-            ∙ simp append-assoc refl))
-            ∙ append-assoc (n ∷ c ∷ k ∷ []) (tabulate (startAt at) n) (tabulate (multiplierBut p at grouped next) n ++ ((runs h j ++ (h j ++ after h n j)) ++ replicate c 0))
-            ∙ ap (λ (s : List ℕ). (n ∷ c ∷ k ∷ []) ++ (tabulate (startAt at) n ++ (tabulate (multiplierBut p at grouped next) n ++ (s ++ replicate c 0))))
-            (sym (runs-split h n j l))
+  -- once it is written it is pending no more, and every other block is as it was
+  pub pending-written :
+      (k : ℕ) (pending next : ℕ → Bool) (j : ℕ) (l : j < n) {words : List ℕ} → words ≡ tableBut p n c k at grouped paired pending → pending j ≡ true
+      → next j ≡ false → ((i : ℕ) → i < n → (i ≡ j → ⊥) → next i ≡ pending i)
+      → blockIn p (groupAt at grouped j) (groupAt at paired j) c (3 + n + j) (3 + 2 * n + startAt at j) words ≡ tableBut p n c k at grouped paired next
+  pending-written k pending next j l {words} is waits written other =
+      let block : List ℕ = groupAt at grouped j in
+      let q : ℕ = multiplierAt p at grouped j in
+      let m : ℕ = square block in
+      let Z : List ℕ = replicate m 0 in
+      let M : List ℕ = mid k pending j l in
+      let L : List ℕ = front k pending j l in
+      let T : List ℕ = multipliers k pending j l in
+      let P : List ℕ = post k pending j l in
+      let R : List ℕ = runs (F k pending j l) j in
+      let cells : List ℕ → List ℕ = λ of. filledBy p q block (groupAt at of j) in
+      let new : List ℕ = cells grouped ++ (M ++ cells paired) in
+      let same : (i : ℕ) → i < n → (i ≡ j → ⊥) → Alike p n c k at grouped paired pending next i =
+      λ i v ne. alike p n c k at grouped paired pending next i (sym (other i v ne)) in
+      let before : (of : List ℕ) → runs (cellsBut p at grouped of pending) j ≡ runs (cellsBut p at grouped of next) j =
+      λ of. runs-ext (cellsBut p at grouped of pending) (cellsBut p at grouped of next) j (λ i v. same i (omega arith) (λ e. omega arith) .1 of) in
+      let behind : (of : List ℕ) → after (cellsBut p at grouped of pending) n j ≡ after (cellsBut p at grouped of next) n j =
+      λ of. after-ext (cellsBut p at grouped of pending) (cellsBut p at grouped of next) n j (λ i v ne. same i v ne .1 of) in
+      let own : (of : List ℕ) → cells of ≡ cellsBut p at grouped of next j = λ of. rw written refl in
+      let turned : q ≡ multiplierBut p at grouped next j = rw written refl in
+      let multiplied : set T j q ≡ tabulate (multiplierBut p at grouped next) n =
+      ap (set T j) turned
+      ∙ tabulate-set (multiplierBut p at grouped pending) (multiplierBut p at grouped next) n j l (λ i v ne. sym (same i v ne .0)) in
+      let middle : take (c - m) (drop m (Z ++ (M ++ Z))) ≡ M =
+      ap (take (c - m)) (drop-at Z (M ++ Z) m (length-replicate {A = ℕ} m 0))
+      ∙ take-at M Z (c - m) (omega (arith, mid-length k pending j l, block-size k pending j l is waits)) in
+      let spread : spreadIn p q block (groupAt at paired j) c (take (c + m) (drop (3 + 2 * n + startAt at j) words)) ≡ new =
+      ap (λ (s : List ℕ). cells grouped ++ (take (c - m) (drop m s) ++ cells paired)) (window-is k pending j l is waits)
+      ∙ ap (λ (s : List ℕ). cells grouped ++ (s ++ cells paired)) middle in
+      ap (λ (s : List ℕ). set s (3 + n + j) q)
+      (ap (λ (s : List ℕ). take (3 + 2 * n + startAt at j) words ++ (s ++ drop (c + m) (drop (3 + 2 * n + startAt at j) words))) spread
+      ∙ part-back words (L ++ (T ++ R)) (Z ++ (M ++ Z)) P (parts k pending j l is waits) (3 + 2 * n + startAt at j) (c + m)
+      (pre-length k pending j l) (window-length k pending j l is waits) new
+      ∙ append-assoc L (T ++ R) (new ++ P)
+      ∙ ap (λ (s : List ℕ). L ++ s) (append-assoc T R (new ++ P)))
+      ∙ set-in L T (R ++ (new ++ P)) (3 + n) j q (front-length k pending j l) (omega (arith, tabulate-length (multiplierBut p at grouped pending) n))
+      ∙ ap (λ (s : List ℕ). L ++ (s ++ (R ++ (new ++ P)))) multiplied
+      ∙ regathered L (tabulate (multiplierBut p at grouped next) n) (before grouped) (own grouped) (behind grouped) (before paired) (own paired)
+      (behind paired)
+      ∙ sym (split k next j l)
 
--- ---- tests that agree
-
-pub pending-same :
-    (p n c k : ℕ) (at grouped : List ℕ) (f g : ℕ → Bool) → ((j : ℕ) → j < n → f j ≡ g j)
-    → tableBut p n c k at grouped f ≡ tableBut p n c k at grouped g
-pending-same p n c k at grouped f g same =
-    ap₂ (λ (s t : List ℕ). (n ∷ c ∷ k ∷ []) ++ (tabulate (startAt at) n ++ (s ++ (t ++ replicate c 0))))
-    (tabulate-ext (multiplierBut p at grouped f) (multiplierBut p at grouped g) n
-    (λ j l. ap (λ (b : Bool). cond b 1 (multiplierAt p at grouped j)) (same j l)))
-    (runs-ext (cellsBut p at grouped f) (cellsBut p at grouped g) n
-    (λ j l.
-    ap (λ (b : Bool). cond b (replicate (sizeAt at j * sizeAt at j) 0) (placedBy p (multiplierAt p at grouped j) (groupAt at grouped j)))
-    (same j l)))
-
--- ---- the blocks of one code, or of none
-
-module _ {p n : ℕ} {at grouped : List ℕ} (g : Groups p n at grouped) (j : ℕ) (l : j < n) where
-  -- the code of a block of one
-  one-code : sizeAt at j ≡ 1 → groupAt at grouped j ≡ getD grouped (getD at j 0) 0 ∷ []
-  one-code e =
-      let some : getD at j 0 < length grouped = omega (arith, g .within j l) in
-      ap (λ (m : ℕ). take m (drop (getD at j 0) grouped)) e ∙ rw (drop-cons grouped (getD at j 0) 0 some) refl
-
-  no-code : sizeAt at j ≡ 0 → groupAt at grouped j ≡ []
-  no-code e = ap (λ (m : ℕ). take m (drop (getD at j 0) grouped)) e
-
-  abbrev large : ℕ → Bool
-  large i = ltb 1 (sizeAt at i)
-
-  pub single-multiplier : 1 ≡ multiplierBut p at grouped large j
-  single-multiplier =
-      elim (decLt 1 (sizeAt at j)) [
-        | yes m ↦ rw (lt-ltb 1 (sizeAt at j) m) refl
-        | no few ↦
-            rw (le-ltb 1 (sizeAt at j) (omega arith))
-            (elim (ℕ-discrete (sizeAt at j) 1) [
-              | yes e ↦ sym (rw (one-code e) (cells-one (rw (one-code e) at (g .codes j l)) .0))
-              | no ne ↦
-                  let e : sizeAt at j ≡ 0 = omega arith in
-                  sym (rw (no-code e) (cells-none (rw (no-code e) at (g .codes j l))))
-            ])
-      ]
-
-  pub single-cells : singleAt at grouped j ≡ cellsBut p at grouped large j
+  -- a block without a code is written from the start
+  pub empty-written : (k : ℕ) → tableBut p n c k at grouped paired (λ j. true) ≡ tableBut p n c k at grouped paired (above at 0)
   unfolding tabulate
-  single-cells =
-      elim (decLt 1 (sizeAt at j)) [
-        | yes m ↦ rw (lt-ltb 1 (sizeAt at j) m, ne-eqb (sizeAt at j) 1 (λ e. omega arith)) refl
-        | no few ↦
-            rw (le-ltb 1 (sizeAt at j) (omega arith))
-            (elim (ℕ-discrete (sizeAt at j) 1) [
-              | yes e ↦
-                  let h = cells-one (rw (one-code e) at (g .codes j l)) in
-                  rw (eq-eqb (sizeAt at j) 1 e, one-code e) (rw (h .0) (sym (h .1)))
-              | no ne ↦
-                  let e : sizeAt at j ≡ 0 = omega arith in
-                  rw (ne-eqb (sizeAt at j) 1 ne, no-code e) (rw e refl)
-            ])
-      ]
+  empty-written k =
+      tables-same p n c k at grouped paired (λ j. true) (above at 0)
+      (λ j l.
+      elim (ℕ-discrete (sizeAt at j) 0) [
+        | yes e ↦
+            let none : groupAt at grouped j ≡ [] = ap (λ (m : ℕ). take m (drop (getD at j 0) grouped)) e in
+            rw (le-ltb 0 (sizeAt at j) (omega arith))
+            (sym (ap (cellsMultiplier p) none ∙ cells-none (rw none at (g .codes j l))), λ values. rw (none, e) refl)
+        | no ne ↦ alike p n c k at grouped paired (λ j. true) (above at 0) j (sym (lt-ltb 0 (sizeAt at j) (omega arith)))
+      ])

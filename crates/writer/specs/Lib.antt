@@ -1,3 +1,2 @@
--- In reading order: the codes grouped by block, and the words written from them.
-pub mod Grouping
+-- The words written from the groups of a list.
 pub mod Writing

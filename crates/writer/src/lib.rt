@@ -1,3 +1,2 @@
-// The words of a table: its codes grouped by block, and what is written of them.
-pub mod grouping;
+// The words of a table, written from its groups.
 pub mod write;

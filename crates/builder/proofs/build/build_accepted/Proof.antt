@@ -1,48 +1,28 @@
 -- `builder::build::build_accepted` meets its contract: each room has a place for each code, and one more where that is needed.
 -- Assumes nothing.
-use mathlib.Core.Path.{sym}
+use mathlib.Core.Path.{refl, sym}
 use native.Mathlib.Omega.{arith}
 use lib.Seq.{length-take-le}
 use borrow.Author.Needs.{needs}
+use Rattle.builder.proofs.Outcomes.{room-for}
 use Rattle.builder.proofs.build.build_accepted.Statement.{statement}
 use Rattle.builder.proofs.build.build_accepted.Tie as tie
 
 build-with-requires : tie.Need-build-with-requires
 build-with-requires c κs =
-    let test = c .before .before .before .before .before .before in
-    let start = test .before .before .before .before in (
-      start .pre .0,
-      (
-        (start .pre .1, length-take-le _ _ (omega arith)),
-        record { at-room = omega arith; grouped-room = omega arith; listed-room = (omega arith, omega arith) },
-      ),
-    )
+    let start = c .before .before .before .before .before .before .before .before .before .before in
+    (start .pre .0, ((start .pre .1, length-take-le _ _ (omega arith)), room-for {m = 32} _ _ _ _ (omega arith) refl (refl, refl) refl))
 
 build-with-requires-2 : tie.Need-build-with-requires-2
 build-with-requires-2 c κs =
-    let test = c .before .before .before .before .before .before in
-    let start = test .before .before .before .before .before in (
-      start .pre .0,
-      (
-        (start .pre .1, length-take-le _ _ (omega arith)),
-        record { at-room = omega arith; grouped-room = omega arith; listed-room = (omega arith, omega arith) },
-      ),
-    )
+    let start = c .before .before .before .before .before .before .before .before .before .before .before in
+    (start .pre .0, ((start .pre .1, length-take-le _ _ (omega arith)), room-for {m = 256} _ _ _ _ (omega arith) refl (refl, refl) refl))
 
 build-with-requires-3 : tie.Need-build-with-requires-3
 build-with-requires-3 c κs =
-    let test = c .before .before .before .before .before .before in
-    let start = test .before .before .before .before .before in (
-      start .pre .0,
-      (
-        (start .pre .1, length-take-le _ _ (omega (arith, start .pre .0 .few))),
-        record {
-          at-room = omega (arith, start .pre .0 .few);
-          grouped-room = omega (arith, start .pre .0 .few);
-          listed-room = (omega (arith, start .pre .0 .few), omega (arith, start .pre .0 .few));
-        },
-      ),
-    )
+    let start = c .before .before .before .before .before .before .before .before .before .before .before in
+    let few = start .pre .0 .few in
+    (start .pre .0, ((start .pre .1, length-take-le _ _ few), room-for {m = 2048} _ _ _ _ few refl (refl, refl) refl))
 
 pub build-accepted-spec : {M : Type 1} → statement M
 build-accepted-spec =

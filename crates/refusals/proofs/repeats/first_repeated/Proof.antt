@@ -1,15 +1,14 @@
 -- `refusals::repeats::first_repeated` meets its contract: where no code is repeated there is no first one.
 -- Assumes nothing.
-use mathlib.Core.Path.{sym, _∙_}
+use mathlib.Core.Path.{sym}
 use borrow.Author.Needs.{needs}
 use borrow.Author.Tests.{not-true}
 use Rattle.table.proofs.First.{first-none}
-use Rattle.table.proofs.Some.{none-first}
 use Rattle.refusals.proofs.repeats.first_repeated.Statement.{statement}
 use Rattle.refusals.proofs.repeats.first_repeated.Tie as tie
 
 returns : tie.Need-returns
-returns c = sym (none-first _ _ (sym (c .before .some-repeated .ensures) ∙ not-true _ (c .if2 .taken)))
+returns c = sym (first-none _ _ (c .before .some-repeated .ensures .none (not-true _ (c .if2 .taken))))
 
 returns-3 : tie.Need-returns-3
 returns-3 c = sym (first-none _ _ (c .before .some-met .ensures .none (not-true _ (c .if3 .taken))))

@@ -1,7 +1,7 @@
 -- `search::blocks::blocks_multiplier` meets its contract. The loop's invariant: no multiplier before k keeps the bound. The measure is p
 -- less k. Assumes nothing.
 use Prim.Native.Nat.{_-_}
-use mathlib.Core.Path.{_≡_, refl, _∙_}
+use mathlib.Core.Path.{_≡_}
 use native.Mathlib.Omega.{arith}
 use borrow.Author.Needs.{needs}
 use lib.ListN.{length}

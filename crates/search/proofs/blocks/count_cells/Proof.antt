@@ -20,7 +20,7 @@ loop-holds : tie.Need-loop-holds Inv-loop μ-loop
 loop-holds c =
     let called = c .before .before in
     let start = called .before .before .before .before .before in
-    (counting-start (start .pre .0 .some) (start .pre .0 .sized .0) (start .pre .0 .sized .1) (called .clear .ensures), (refl, refl))
+    (counting-start (start .pre .0 .some) (start .pre .0 .sized .0) (start .pre .0 .sized .1) (called .fill .ensures), (refl, refl))
 
 hash-below-by-requires : tie.Need-hash-below-by-requires Inv-loop μ-loop
 hash-below-by-requires c κs =

@@ -1,15 +1,51 @@
--- `writer::write::write_block` meets its contract: the part that is lent is 0, and comes back with the cells.
+-- `writer::write::write_block` meets its contract: the cells that are lent for the search come back as they were, and the part that is lent then with
+-- the pairs.
 -- Assumes nothing.
+use mathlib.Core.Path.{refl}
+use native.Mathlib.Nat.{mul-pos}
 use borrow.Author.Needs.{needs}
-use Rattle.writer.proofs.Pending.{vacant-part, vacant-written}
+use Rattle.search.proofs.LeastCells.{unplaced-square}
+use Rattle.writer.proofs.Vacancies.{vacant-part, vacant-separating, again-cleared, again-length, again-written}
 use Rattle.writer.proofs.write.write_block.Statement.{statement}
 use Rattle.writer.proofs.write.write_block.Tie as tie
 
-block-multiplier-requires : tie.Need-block-multiplier-requires
-block-multiplier-requires c κs = let start = c .before .before .before in (vacant-part (start .pre), start .pre .some)
+reciprocal-requires : tie.Need-reciprocal-requires
+reciprocal-requires c κs = let some = c .before .before .before .pre .1 in mul-pos some some
+
+more-multiplier-requires : tie.Need-more-multiplier-requires
+more-multiplier-requires c κs =
+    let start = c .before .before .before .before .before in
+    let part = vacant-part (start .pre .0) in
+    (part, (start .pre .1, rw (unplaced-square part) (c .before .reciprocal .ensures)))
+
+spread-requires : tie.Need-spread-requires
+spread-requires c κs =
+    let found = c .before .before .before .before .before in
+    let start = found .before .before .before .before .before .before in (
+      vacant-separating (start .pre .0) (found .more-multiplier .ensures .0),
+      (
+        (found .before .before .reciprocal .ensures, refl),
+        again-cleared (start .pre .0) (c .before .before .wide .ensures .value) (c .before .wide2 .ensures .value) _ (found .more-multiplier .ensures .1),
+      ),
+    )
+
+same-length : tie.Need-same-length
+same-length c =
+    let called = c .before .before in
+    let read = called .before .before in
+    let found = read .before .before .before .before in
+    let start = found .before .before .before .before .before .before in
+    again-length (start .pre .0) (read .before .wide .ensures .value) (read .wide2 .ensures .value) _ (found .more-multiplier .ensures .1)
+    (found .more-multiplier .result) (called .spread .last .1 .1 .1 .1 .1 .1 .1 .0) (called .spread .kept .1 .1 .1 .1 .1 .1 .1 .0)
 
 returns : tie.Need-returns
-returns c = vacant-written (c .before .before .before .before .before .before .pre) _ _ (c .before .before .block-multiplier .ensures)
+returns c =
+    let called = c .before .before in
+    let read = called .before .before in
+    let found = read .before .before .before .before in
+    let start = found .before .before .before .before .before .before in
+    again-written (start .pre .0) (read .before .wide .ensures .value) (read .wide2 .ensures .value) _ (found .more-multiplier .ensures .1) _ _
+    (found .more-multiplier .ensures .0) (called .spread .ensures)
 
 pub write-block-spec : {M : Type 1} → statement M
 write-block-spec =
@@ -17,12 +53,24 @@ write-block-spec =
     (tie.spec
     (λ c. search needs)
     (λ c. search needs)
+    reciprocal-requires
     (λ c. search needs)
     (λ c. search needs)
     (λ c. search needs)
     (λ c. search needs)
-    block-multiplier-requires
+    (λ c. search needs)
+    more-multiplier-requires
+    (λ c κs. search needs)
     (λ c. search needs)
     (λ c. search needs)
     (λ c. search needs)
+    (λ c κs. search needs)
+    (λ c. search needs)
+    (λ c. search needs)
+    (λ c. search needs)
+    (λ c. search needs)
+    spread-requires
+    (λ c. search needs)
+    (λ c. search needs)
+    same-length
     returns)

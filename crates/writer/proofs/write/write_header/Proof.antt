@@ -1,17 +1,17 @@
--- `writer::write::write_header` meets its contract: three stores in words that were cleared.
+-- `writer::write::write_header` meets its contract: three stores in words that were all set to 0.
 -- Assumes nothing.
 use native.Mathlib.Omega.{arith}
 use lib.ListN.{length-set}
 use borrow.Author.Needs.{needs}
-use Rattle.writer.proofs.Assembly.{header-set}
+use Rattle.writer.proofs.Fronts.{header-set}
 use Rattle.writer.proofs.write.write_header.Statement.{statement}
 use Rattle.writer.proofs.write.write_header.Tie as tie
 
 slice-write-words-2 : tie.Need-slice-write-words-2
-slice-write-words-2 c = simp length-set (omega (arith, c .before .before .clear .kept .0))
+slice-write-words-2 c = simp length-set (omega (arith, c .before .before .fill .kept .0))
 
 returns : tie.Need-returns
-returns c = header-set _ _ _ _ _ (c .before .before .clear .ensures) (c .before .before .before .before .before .pre)
+returns c = header-set _ _ _ _ _ (c .before .before .fill .ensures) (c .before .before .before .before .before .pre)
 
 pub write-header-spec : {M : Type 1} → statement M
 write-header-spec =

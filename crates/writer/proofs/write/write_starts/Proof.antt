@@ -10,8 +10,8 @@ use lib.ListN.{length, length-set, drop}
 use Rattle.hash.specs.Hash.{sum}
 use Rattle.table.specs.TwoLevel.{tabulate}
 use Rattle.writer.specs.Writing.{startAt}
-use Rattle.writer.proofs.Singles.{start-more, start-fits}
-use Rattle.writer.proofs.Parts.{written-more, written-all}
+use Rattle.writer.proofs.Starts.{start-more, start-fits}
+use Rattle.groups.proofs.Parts.{written-more, written-all}
 use Rattle.writer.proofs.write.write_starts.Statement.{statement}
 use Rattle.writer.proofs.write.write_starts.Tie as tie
 

@@ -1,0 +1,69 @@
+-- `writer::write::write_mores` meets its contract. Invariant: what is left of the list is pending. The measure is what is left.
+-- Assumes nothing.
+use Prim.Native.Nat.{_-_, _≤_}
+use mathlib.Core.Bool.{false, _||_}
+use mathlib.Core.Path.{_≡_, refl, _∙_}
+use native.Mathlib.Omega.{arith}
+use borrow.Author.Needs.{needs}
+use borrow.Author.Tests.{ltb-true}
+use lib.ListN.{length, drop}
+use Rattle.refusals.specs.Repeats.{among}
+use Rattle.writer.specs.Writing.{tableBut}
+use Rattle.writer.proofs.Listing.{last-sizes, listed-start, listed-more, listed-all, next-block}
+use Rattle.writer.proofs.write.write_mores.Statement.{statement}
+use Rattle.writer.proofs.write.write_mores.Tie as tie
+
+abbrev Inv-loop : tie.InvT-loop
+Inv-loop p n c k at grouped paired listed words₀ t₀ words t =
+    (words ≡ tableBut p n c k at grouped paired (λ j. among j (drop t listed) || false))
+    × ((length words ≡ length words₀) × (t ≤ length listed))
+
+abbrev μ-loop : tie.MeasureT-loop
+μ-loop p n c k at grouped paired listed words₀ t₀ words t = length listed - t
+
+loop-holds : tie.Need-loop-holds Inv-loop μ-loop
+loop-holds c =
+    let start = c .before .before .before .before .before in
+    (listed-start (last-sizes 2) (start .pre .0 .0) (start .args .k) (start .pre .1 .0) (start .pre .1 .1), (refl, omega arith))
+
+write-more-requires : tie.Need-write-more-requires Inv-loop μ-loop
+write-more-requires c κs =
+    let test = c .before .before in
+    let now = test .before in
+    let start = now .before .before .before .before .before .before in
+    let next = next-block (last-sizes 2) (start .pre .0 .0) (start .args .k) (start .pre .1 .0) (now .loop .inv .0) (test .loop-test .taken) in
+    ((start .pre .0 .0, (next .below, start .pre .0 .1)), (ltb-true 2 _ (next .sized), (next .start, next .vacant)))
+
+loop-again : tie.Need-loop-again Inv-loop μ-loop
+loop-again c =
+    let called = c .before .before in
+    let test = called .before .before .before in
+    let now = test .before in
+    let start = now .before .before .before .before .before .before in (
+      listed-more (last-sizes 2) (start .pre .0 .0) (start .args .k) (start .pre .1 .0) (now .loop .inv .0) (test .loop-test .taken)
+          (called .write-more .ensures),
+      (called .write-more .kept .1 .1 .1 .1 .1 .1 .1 .0 ∙ now .loop .inv .1 .0, omega arith),
+    )
+
+returns : tie.Need-returns Inv-loop μ-loop
+returns c =
+    let now = c .before in
+    let start = now .before .before .before .before .before .before in
+    listed-all (last-sizes 2) (start .pre .0 .0) (start .args .k) (start .pre .1 .0) (now .loop .t) (now .loop .inv .0) (omega arith)
+
+pub write-mores-spec : {M : Type 1} → statement M
+write-mores-spec =
+    tie.close
+    (tie.spec
+    Inv-loop
+    μ-loop
+    loop-holds
+    (λ c. search needs)
+    (λ c. search needs)
+    (λ c. omega (arith, c .shared-slice-known5 .given (c .before .before .loop .t)))
+    write-more-requires
+    (λ c. search needs)
+    (λ c. search needs)
+    loop-again
+    (λ c. search needs)
+    returns)
