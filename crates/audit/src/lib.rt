@@ -1,4 +1,3 @@
 // The check of a table from anywhere.
 mod blocks;
 pub mod check;
-mod conditions;

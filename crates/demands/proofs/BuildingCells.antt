@@ -22,9 +22,9 @@ use Rattle.table.proofs.Front.{sizeOf, blockQ, start-last, Fronted}
 use Rattle.table.proofs.Own.{block-apart}
 use Rattle.faults.specs.Check.{codesIn}
 use Rattle.faults.proofs.Counting.{codes-append}
-use Rattle.search.specs.Placed.{heldBy}
-use Rattle.search.proofs.PlacedLaws.{heldBy-here, heldBy-later, heldBy-none}
-use Rattle.search.proofs.BlockCells.{block-codes}
+use Rattle.cells.specs.Placed.{heldBy}
+use Rattle.cells.proofs.PlacedLaws.{heldBy-here, heldBy-later, heldBy-none}
+use Rattle.cells.proofs.BlockCells.{block-codes}
 
 -- a cell counts where it holds a code
 abbrev full : ℕ → ℕ

@@ -21,8 +21,8 @@ use Rattle.table.proofs.Own.{listed-load}
 use Rattle.table.proofs.Contents.{Tabled, Filled, Empty, filled-or-empty, cellsOf-is, needed-is}
 use Rattle.faults.specs.Check.{codesIn, blockCodes, allCodes}
 use Rattle.audit.specs.WellFormed.{WellFormed}
-use Rattle.search.specs.Placed.{heldBy}
-use Rattle.search.proofs.BlockCells.{held-codes}
+use Rattle.cells.specs.Placed.{heldBy}
+use Rattle.cells.proofs.BlockCells.{held-codes}
 use Rattle.demands.specs.Lists.{Valid}
 use Rattle.demands.proofs.BuildingCells.{block-full, table-full}
 

@@ -13,7 +13,8 @@ use Rattle.table.specs.Answers.{Answer, given, refused, refuse, filled}
 use Rattle.table.specs.TwoLevel.{wordsNeeded, tableOf}
 use Rattle.table.proofs.Refusals.{never-both}
 use Rattle.builder.specs.Build.{buildOf, builtWords, Built}
-use Rattle.builder.specs.Built.{builtOf, acceptedOf}
+use Rattle.builder.specs.Built.{builtOf}
+use Rattle.accepted.specs.Accepted.{acceptedOf}
 use Rattle.builder.specs.declared.build.BuildAnswer.{BuildAnswer}
 use Rattle.builder.specs.declared.build.BuildAnswer.the-variants as Case
 use Rattle.builder.proofs.build.BuildAnswer.{the-type}

@@ -1,6 +1,6 @@
 // The C interface (include/glass.h): each function shows the answer of the proved one as a number and a value.
 ghost use Rattle.table.specs.Lookup.{lookupOf};
-ghost use Rattle.table.specs.Panel.{panelOf};
+ghost use Rattle.panel.specs.Panel.{panelOf};
 ghost use Rattle.faults.specs.Check.{checkOf};
 ghost use Rattle.shown.specs.Numbers.{Shown};
 ghost use Rattle.glass_c.specs.Exports.{BuildShown, PairsShown, InsertShown, RemoveShown};
@@ -31,7 +31,7 @@ pub extern "C" fn glass_lookup(words: &[u32], code: u32) -> GlassAnswer
 pub extern "C" fn glass_panel(words: &[u32], codes: &[u32]) -> GlassAnswer
     ensures { λ r. ⌜ Shown (panelOf 65537 2048 (now (words .entry)) (now (codes .entry))) r ⌝ }
 {
-    shown::fired::shown(table::panel::panel(words, codes))
+    shown::fired::shown(panel::panel(words, codes))
 }
 
 #[no_mangle]

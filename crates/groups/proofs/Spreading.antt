@@ -10,10 +10,10 @@ use lib.Seq.{length-take-le, drop-length, drop-drop, set-append-left, set-comm}
 use Rattle.hash.specs.Hash.{hashOf}
 use Rattle.table.specs.TwoLevel.{tabulate}
 use Rattle.table.proofs.Tabulate.{tabulate-length}
-use Rattle.search.specs.Placed.{heldBy}
-use Rattle.search.specs.Cells.{square}
+use Rattle.cells.specs.Placed.{heldBy}
+use Rattle.cells.specs.Cells.{square}
 use Rattle.search.proofs.Ends.{drop-before}
-use Rattle.search.proofs.PlacedLaws.{heldBy-start, heldBy-put}
+use Rattle.cells.proofs.PlacedLaws.{heldBy-start, heldBy-put}
 use Rattle.groups.specs.Spread.{spreadIn, Cleared}
 use Rattle.groups.proofs.Parts.{set-past}
 

@@ -4,7 +4,7 @@ use mathlib.Core.List.{List, _++_}
 use mathlib.Core.Path.{_≡_}
 use lib.ListN.{length, take, drop, replicate}
 use Rattle.hash.specs.Hash.{together, Codes}
-use Rattle.search.specs.Cells.{square, filledBy}
+use Rattle.cells.specs.Cells.{square, filledBy}
 
 -- a block's codes in the first of these words, and their values c words later
 abbrev pub spreadIn : ℕ → ℕ → List ℕ → List ℕ → ℕ → List ℕ → List ℕ

@@ -2,7 +2,7 @@
 ghost use mathlib.Core.List.{[], _∷_};
 ghost use mathlib.Core.Path.{_≡_};
 ghost use Rattle.hash.specs.Contract.{Ready};
-ghost use Rattle.search.specs.Cells.{square};
+ghost use Rattle.cells.specs.Cells.{square};
 ghost use Rattle.groups.specs.Spread.{Cleared, Separating, spreadIn};
 use table::words::wide;
 

@@ -1,5 +1,3 @@
--- In reading order: the cells of one block, what both searches ask, and what each promises.
-pub mod Placed
+-- In reading order: what a search asks, and what the search for k promises.
 pub mod Searchable
 pub mod Blocks
-pub mod Cells

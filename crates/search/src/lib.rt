@@ -1,4 +1,3 @@
-// The least k of a list, and the least q of a block.
+// The least k of a list, and words set to one value.
 pub mod blocks;
-pub mod cells;
 pub mod fill;

@@ -1,8 +1,8 @@
 // The answers of a panel, for C.
-ghost use Rattle.table.specs.Fired.{firedOf};
+ghost use Rattle.panel.specs.Fired.{firedOf};
 ghost use Rattle.shown.specs.Numbers.{Shown};
 use crate::GlassAnswer;
-use table::panel::Fired;
+use panel::Fired;
 
 pub fn shown(f: Fired) -> GlassAnswer
     ensures { λ r. ⌜ Shown (firedOf f) r ⌝ }

@@ -1,10 +1,9 @@
 -- What several proofs cite: how a definition's tests are decided, what sizes that pass them tell, the first index of which a test holds,
--- refusals one below the other, the steps of a panel's walk and of a lookup.
+-- refusals one below the other, the steps of a lookup.
 pub mod Laws
 pub mod First
 pub mod Some
 pub mod Refusals
-pub mod Walk
 pub mod Steps
 -- The table of a list: lists by their function, the words before the cells, what each cell holds, the multipliers that are taken,
 -- the codes' own cells, and what is read from the words.

@@ -1,4 +1,3 @@
-// The words of a table; lookup and panel: what the controller does while it fires. Nothing here writes.
+// The words of a table, and lookup: what the controller does while it fires. Nothing here writes.
 pub mod lookup;
-pub mod panel;
 pub mod words;

@@ -44,7 +44,7 @@ fn in_cell(words: &[u32], code: u32, i: usize) -> Found
 }
 
 // The answer from block j, the code's own. The q of a block without cells is not looked at.
-pub(crate) fn in_block(p: u32, words: &[u32], code: u32, j: usize) -> Found
+pub fn in_block(p: u32, words: &[u32], code: u32, j: usize) -> Found
     requires { ⌜ (1 ≤ p) × Block (now words) j ⌝ }
     ensures { λ r. ⌜ foundOf r ≡ inBlock p (now (words .entry)) code j ⌝ }
 {

@@ -5,7 +5,7 @@ use Rattle.table.specs.Answers.{firstOf}
 use Rattle.table.specs.Words.{blockOf, cellIn, ownCell}
 use Rattle.table.specs.TwoLevel.{tabulate, blocksMultiplier, cellsMultiplier, startOf, frontWith, frontOf, heldIn, tableWith, cellsOf, wordsNeeded, tableOf}
 use Rattle.table.specs.Lookup.{badSizes, inCell, inBlock, lookupOf}
-use Rattle.table.specs.Panel.{walkOf, panelOf}
+use Rattle.panel.specs.Panel.{walkOf, panelOf}
 use Rattle.refusals.specs.Repeats.{among, repeated}
 use Rattle.builder.specs.Build.{badCode, badSchedule, listOr, buildOf}
 use Rattle.vectors.specs.Firings.{Firings}

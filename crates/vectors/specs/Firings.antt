@@ -6,7 +6,7 @@ use Rattle.hash.specs.Hash.{load, members}
 use Rattle.table.specs.Answers.{Answer, given, absent, refused}
 use Rattle.table.specs.TwoLevel.{tableOf, tabulate}
 use Rattle.table.specs.Lookup.{lookupOf}
-use Rattle.table.specs.Panel.{panelOf}
+use Rattle.panel.specs.Panel.{panelOf}
 use Rattle.builder.specs.Build.{buildOf}
 
 -- the codes of P3 and P5

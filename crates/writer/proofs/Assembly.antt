@@ -17,10 +17,10 @@ use Rattle.table.specs.TwoLevel.{tabulate, cellsMultiplier, startOf, frontWith,
 use Rattle.table.proofs.Tabulate.{tabulate-ext}
 use Rattle.table.proofs.Front.{blockQ, start-last, front-parts, front-fronted}
 use Rattle.search.specs.Searchable.{Searchable}
-use Rattle.search.specs.Placed.{heldBy, valuesOf}
-use Rattle.search.specs.Cells.{filledBy}
-use Rattle.search.proofs.PlacedLaws.{valuesOf-codes}
-use Rattle.search.proofs.BlockCells.{block-cells}
+use Rattle.cells.specs.Placed.{heldBy, valuesOf}
+use Rattle.cells.specs.Cells.{filledBy}
+use Rattle.cells.proofs.PlacedLaws.{valuesOf-codes}
+use Rattle.cells.proofs.BlockCells.{block-cells}
 use Rattle.groups.specs.Grouping.{before, Loads, chosen, ListedApart, Grouped}
 use Rattle.writer.specs.Writing.{sizeAt, groupAt, startAt, multiplierAt, runs, cellsBut, tableBut, Offsets, Groups, Writable}
 use Rattle.groups.proofs.Groups.{before-next, before-le}

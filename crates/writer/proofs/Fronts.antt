@@ -10,7 +10,7 @@ use lib.ListN.{length, take, drop, set, replicate, length-replicate, replicate-a
 use Rattle.hash.specs.Hash.{sum}
 use Rattle.table.specs.TwoLevel.{tabulate}
 use Rattle.table.proofs.Tabulate.{tabulate-length}
-use Rattle.writer.specs.Writing.{sizeAt, startAt, runs, tableBut, headed, started, Offsets}
+use Rattle.writer.specs.Writing.{sizeAt, startAt, runs, tableBut, headed, Offsets}
 use Rattle.groups.proofs.Parts.{part-is, part-back, zeros-split}
 
 pub header-set : (words : List ℕ) (m n c k : ℕ) → words ≡ replicate m 0 → 3 ≤ m → set (set (set words 0 n) 1 c) 2 k ≡ headed n c k m
@@ -31,6 +31,9 @@ module _ (words pre : List ℕ) (a m rest : ℕ) (is : words ≡ pre ++ (replica
   lent-back new = part-back words pre (replicate m 0) (replicate rest 0) is a (a + m - a) from count-is new
 
 -- ---- the starts, after n, c and k
+
+abbrev pub started : ℕ → ℕ → ℕ → List ℕ → ℕ → List ℕ
+started n c k at size = (n ∷ c ∷ k ∷ []) ++ (tabulate (startAt at) n ++ replicate (size - (3 + n)) 0)
 
 module _ (n c k size : ℕ) (at words : List ℕ) (room : 3 + n ≤ size) (is : words ≡ headed n c k size) where
   headed-parts : words ≡ (n ∷ c ∷ k ∷ []) ++ (replicate n 0 ++ replicate (size - (3 + n)) 0)

@@ -14,9 +14,9 @@ use lib.Seq.{take-at, drop-at, length-take-le, getD-append-add}
 use Rattle.hash.proofs.Indicators.{true-or-false}
 use Rattle.table.specs.TwoLevel.{tabulate, cellsMultiplier}
 use Rattle.table.proofs.Tabulate.{tabulate-length, tabulate-ext, tabulate-set, tabulate-head, tabulate-past}
-use Rattle.search.specs.Cells.{square, filledBy}
-use Rattle.search.specs.Placed.{heldBy}
-use Rattle.search.proofs.LeastCells.{cells-none}
+use Rattle.cells.specs.Cells.{square, filledBy}
+use Rattle.cells.specs.Placed.{heldBy}
+use Rattle.cells.proofs.LeastCells.{cells-none}
 use Rattle.writer.specs.Writing.{sizeAt, groupAt, startAt, multiplierAt, runs, multiplierBut, cellsBut, tableBut, Groups, above, Vacant, blockIn}
 use Rattle.groups.specs.Spread.{spreadIn}
 use Rattle.groups.proofs.Parts.{part-is, part-back, set-in}

@@ -9,8 +9,8 @@ use native.Mathlib.Omega.{arith}
 use borrow.Rule.Slice.PartMut.{put-same, same-len-mid}
 use lib.ListN.{length, getD, take, drop, set, length-set, take-append-drop, drop-of-length-le}
 use lib.Seq.{drop-cons, length-take-le, set-split, set-getD, getD-set-other, take-take}
-use Rattle.search.specs.Cells.{square, Unplaced, Separated}
-use Rattle.search.proofs.LeastCells.{cells-one}
+use Rattle.cells.specs.Cells.{square, Unplaced, Separated}
+use Rattle.cells.proofs.LeastCells.{cells-one}
 use Rattle.writer.specs.Writing.{sizeAt, groupAt, Vacant, blockIn}
 use Rattle.groups.specs.Spread.{spreadIn, Cleared, Separating}
 use Rattle.groups.proofs.Parts.{set-in}

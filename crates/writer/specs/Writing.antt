@@ -8,7 +8,7 @@ use lib.Dec.{ltb}
 use lib.ListN.{length, getD, take, drop, set, replicate}
 use Rattle.hash.specs.Hash.{sum, cells}
 use Rattle.table.specs.TwoLevel.{tabulate, cellsMultiplier}
-use Rattle.search.specs.Cells.{square, filledBy}
+use Rattle.cells.specs.Cells.{square, filledBy}
 use Rattle.search.specs.Searchable.{Searchable}
 use Rattle.groups.specs.Spread.{spreadIn, Cleared}
 
@@ -90,10 +90,6 @@ blockIn p block values c j start words =
 -- words that begin with n, c and k, and are 0 after them
 abbrev pub headed : ℕ → ℕ → ℕ → ℕ → List ℕ
 headed n c k size = n ∷ c ∷ k ∷ replicate (size - 3) 0
-
--- the same with the starts of n groups after k
-abbrev pub started : ℕ → ℕ → ℕ → List ℕ → ℕ → List ℕ
-started n c k at size = (n ∷ c ∷ k ∷ []) ++ (tabulate (startAt at) n ++ replicate (size - (3 + n)) 0)
 
 -- codes, the cells that multiplier k gives them, and a schedule for each
 pub record Writable (p k c : ℕ) (codes schedules : List ℕ) : Type 0 where

@@ -8,12 +8,12 @@ ghost use Rattle.search.specs.Searchable.{mostCodes};
 ghost use Rattle.table.specs.TwoLevel.{tabulate, frontWith, tableWith};
 ghost use Rattle.groups.specs.Grouping.{Blocks, Loads, ListedApart, chosen};
 ghost use Rattle.writer.specs.Writing.{sizeAt, groupAt, startAt, headed, Offsets, Groups, above, tableBut, Vacant, blockIn, Writable, Room};
+use cells::more_multiplier;
+use cells::two_multiplier;
 use groups::grouping::Apart;
 use groups::grouping::group;
 use groups::spread::spread;
 use groups::spread::spread_two;
-use search::cells::more_multiplier;
-use search::cells::two_multiplier;
 use table::words::wide;
 
 // Writes n, c and k, and 0 in all words after them.

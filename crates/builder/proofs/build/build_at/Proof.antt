@@ -5,7 +5,7 @@ use native.Mathlib.Omega.{arith}
 use borrow.Author.Needs.{needs}
 use Rattle.builder.specs.Build.{badCode, badSchedule}
 use Rattle.builder.proofs.Valid.{codes-pass}
-use Rattle.builder.proofs.Outcomes.{passes, lengths-differ, too-many-pairs, bad-code, bad-schedule, repeated-code, accepted-built}
+use Rattle.builder.proofs.Outcomes.{passes, lengths-differ, too-many-pairs, bad-code, bad-schedule, repeated-code, Passed, too-short, long-enough}
 use Rattle.builder.proofs.build.build_at.Statement.{statement}
 use Rattle.builder.proofs.build.build_at.Tie as tie
 
@@ -51,17 +51,30 @@ build-accepted-requires c κs =
     (passes _ (new .before .first-repeated .ensures) (new .if5 .left)) in
     (record { prime = few .before .before .before .before .before .pre .0; valid = valid; few = omega (arith, few .if2 .left) }, sym (few .before .if1 .left))
 
-returns-6 : tie.Need-returns-6
+-- none of 1 to 5 holds
+passed :
+    (c : tie.After-build-accepted)
+    → let start = c .before .before .before .before .before .before .before .before .before .before .before .before .before in
+    Passed (start .args .p) (start .args .limit) (start .args .codes .now) (start .args .schedules .now)
 unfolding badCode badSchedule
-returns-6 c =
-    let new = c .before .before .before .before in
+passed c =
+    let new = c .before .before in
     let scheduled = new .before .before in
     let good = scheduled .before .before in
     let few = good .before .before in
-    accepted-built _ _ _ _ _ (few .before .if1 .left) (few .if2 .left)
-    (passes _ (good .before .first-outside .ensures) (good .if3 .left))
-    (passes _ (scheduled .before .first-outside2 .ensures) (scheduled .if4 .left))
-    _ _ (passes _ (new .before .first-repeated .ensures) (new .if5 .left)) (c .before .before .build-accepted .ensures)
+    record {
+      same = few .before .if1 .left;
+      few = few .if2 .left;
+      good = passes _ (good .before .first-outside .ensures) (good .if3 .left);
+      scheduled = passes _ (scheduled .before .first-outside2 .ensures) (scheduled .if4 .left);
+      new = passes _ (new .before .first-repeated .ensures) (new .if5 .left);
+    }
+
+returns-6 : tie.Need-returns-6
+returns-6 c = let accepted = c .before .before .before in too-short (passed accepted) (accepted .build-accepted .ensures) (c .if6 .taken)
+
+returns-7 : tie.Need-returns-7
+returns-7 c = let accepted = c .before .before .before in long-enough (passed accepted) (accepted .build-accepted .ensures) (c .if6 .left)
 
 pub build-at-spec : {M : Type 1} → statement M
 build-at-spec =
@@ -81,4 +94,7 @@ build-at-spec =
     returns-5
     build-accepted-requires
     (λ c. search needs)
-    returns-6)
+    (λ c. search needs)
+    returns-6
+    (λ c. search needs)
+    returns-7)

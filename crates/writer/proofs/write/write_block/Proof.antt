@@ -4,7 +4,7 @@
 use mathlib.Core.Path.{refl}
 use native.Mathlib.Nat.{mul-pos}
 use borrow.Author.Needs.{needs}
-use Rattle.search.proofs.LeastCells.{unplaced-square}
+use Rattle.cells.proofs.LeastCells.{unplaced-square}
 use Rattle.writer.proofs.Vacancies.{vacant-part, vacant-separating, again-cleared, again-length, again-written}
 use Rattle.writer.proofs.write.write_block.Statement.{statement}
 use Rattle.writer.proofs.write.write_block.Tie as tie

@@ -1,0 +1,2 @@
+-- A build of an accepted list.
+pub mod Accepted

@@ -1,0 +1,2 @@
+-- The steps of a panel's walk.
+pub mod Walking

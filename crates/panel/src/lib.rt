@@ -1,0 +1,99 @@
+// The schedule of a panel, a batch of codes fired together (document 01, "Panel").
+ghost use Prim.Native.Nat.{_≤_};
+ghost use mathlib.Core.Path.{_≡_};
+ghost use lib.ListN.{length};
+ghost use Rattle.hash.specs.Contract.{Ready};
+ghost use Rattle.table.specs.Words.{codeCount};
+ghost use Rattle.table.specs.Lookup.{lookupOf};
+ghost use Rattle.table.specs.Sized.{Blocks};
+ghost use Rattle.panel.specs.Panel.{walkOf, panelOf};
+ghost use Rattle.table.specs.Found.{foundOf};
+ghost use Rattle.panel.specs.Fired.{firedOf, endedOf};
+use table::lookup::Found;
+use table::lookup::in_block;
+use table::lookup::lookup_at;
+use table::words::has_blocks;
+use table::words::larger;
+use table::words::outside;
+use table::words::wide;
+
+pub enum Fired {
+    Schedule(u32),
+    // the first code that is absent, by its index
+    Unknown(u32),
+    // the number of a lookup's refusal, and its code's index
+    Refused(u32, u32),
+    // 35
+    NoCodes,
+    // 36
+    TooManyCodes,
+}
+
+// How a lookup that found no schedule ends the panel at index i.
+fn ended(f: Found, i: u32) -> Fired
+    ensures { λ r. ⌜ firedOf r ≡ endedOf (foundOf f) i ⌝ }
+{
+    match f {
+        Found::Schedule(s) => Fired::Schedule(s),
+        Found::Absent => Fired::Unknown(i),
+        Found::CodeOutOfRange => Fired::Refused(31, i),
+        Found::TooFewWords => Fired::Refused(32, i),
+        Found::BadSizes => Fired::Refused(33, i),
+        Found::BadBlock => Fired::Refused(34, i),
+    }
+}
+
+// The answer for one code of a panel: the sizes are tested before, and the number of blocks is ready as a divisor.
+fn lookup_in(p: u32, limit: u32, words: &[u32], reciprocal: u64, code: u32) -> Found
+    requires { ⌜ (1 ≤ p) × (Blocks p limit (now words) × Ready p (codeCount (now words)) reciprocal) ⌝ }
+    ensures { λ r. ⌜ foundOf r ≡ lookupOf p limit (now (words .entry)) code ⌝ }
+{
+    if outside(1, p - 1, code) {
+        return Found::CodeOutOfRange;
+    }
+    let j = wide(hash::hash_by(p, words[2], words[0], reciprocal, code));
+    in_block(p, words, code, j)
+}
+
+// The codes looked up in their order: the first one absent or refused ends it, otherwise the largest schedule found.
+fn walk(p: u32, limit: u32, words: &[u32], codes: &[u32]) -> Fired
+    requires { ⌜ (1 ≤ p) × (Blocks p limit (now words) × (length (now codes) ≤ 64)) ⌝ }
+    ensures { λ r. ⌜ firedOf r ≡ walkOf p limit (now (words .entry)) (now (codes .entry)) 0 0 ⌝ }
+{
+    let reciprocal = hash::reciprocal(p, words[0]);
+    let mut largest: u32 = 0;
+    let mut i: usize = 0;
+    while i < codes.len() {
+        let f = lookup_in(p, limit, words, reciprocal, codes[i]);
+        let Found::Schedule(s) = f else {
+            return ended(f, i as u32);
+        };
+        largest = larger(largest, s);
+        i += 1;
+    }
+    Fired::Schedule(largest)
+}
+
+// The answer for any words and codes, with the prime and the limit on the codes of a table.
+pub fn panel_at(p: u32, limit: u32, words: &[u32], codes: &[u32]) -> Fired
+    requires { ⌜ 1 ≤ p ⌝ }
+    ensures { λ r. ⌜ firedOf r ≡ panelOf p limit (now (words .entry)) (now (codes .entry)) ⌝ }
+{
+    if codes.len() == 0 {
+        return Fired::NoCodes;
+    }
+    if 64 < codes.len() {
+        return Fired::TooManyCodes;
+    }
+    if !has_blocks(p, limit, words) {
+        return ended(lookup_at(p, limit, words, codes[0]), 0);
+    }
+    walk(p, limit, words, codes)
+}
+
+// The schedule of a panel in any words: the largest of its codes, unknown, or refused. It writes nothing and relies on no earlier check.
+pub fn panel(words: &[u32], codes: &[u32]) -> Fired
+    ensures { λ r. ⌜ firedOf r ≡ panelOf 65537 2048 (now (words .entry)) (now (codes .entry)) ⌝ }
+{
+    panel_at(65537, 2048, words, codes)
+}
