@@ -1,6 +1,5 @@
 -- What is looked up in a well-formed table: a code that stands in a cell is found with that cell's schedule, and any other is absent.
 -- A code in a cell is in its own, which is the one cell that a lookup reads.
--- Assumes nothing.
 use Prim.Native.Nat.{ℕ, _-_, _<_, _≤_}
 use mathlib.Core.Bool.{true, false, cond}
 use mathlib.Core.List.{List, [], _∷_}
@@ -19,9 +18,9 @@ use Rattle.hash.proofs.Indicators.{true-or-false}
 use Rattle.table.proofs.Laws.{within}
 use Rattle.table.proofs.Refusals.{never-both}
 use Rattle.audit.specs.WellFormed.{WellFormed}
-use Rattle.faults.specs.Starts.{Starts}
-use Rattle.faults.proofs.Partition.{block-lt, start-le-end, end-within, cell-lt}
-use Rattle.faults.proofs.Bounds.{some-codes}
+use Rattle.audit.specs.code.Starts.{Starts}
+use Rattle.audit.proofs.Partition.{block-lt, start-le-end, end-within, cell-lt}
+use Rattle.audit.proofs.Bounds.{some-codes}
 use Rattle.audit.proofs.WellFormed.{cells-hold}
 
 -- x is from low to high

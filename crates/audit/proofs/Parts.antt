@@ -1,6 +1,5 @@
 -- The part of the words that belongs to a block. A code is in its own cell exactly where the cell's block is its block, and the cell's place is its
 -- place there: a block without cells has none of these places.
--- Assumes nothing.
 use Prim.Native.Nat.{ℕ, _+_, _*_, _-_, _<_, _≤_}
 use mathlib.Core.Bool.{Bool, not, _&&_, _||_}
 use mathlib.Core.List.{List}
@@ -13,10 +12,10 @@ use lib.ListN.{length, getD, take, drop, length-drop}
 use lib.Seq.{getD-take, getD-drop, length-take-le}
 use Rattle.hash.specs.Hash.{hashOf}
 use Rattle.table.specs.Words.{codeCount, multiplier, total, blockStart, blockEnd, blockMultiplier, cellCode, blockOf, cellIn, ownCell}
-use Rattle.faults.specs.Check.{misplaced, blockCodes}
-use Rattle.faults.specs.Starts.{Starts}
-use Rattle.faults.proofs.Partition.{block-lt, edge-start, apart, end-within, cell-lt}
-use Rattle.audit.specs.Blocks.{strange, strangeAt}
+use Rattle.audit.specs.Check.{misplaced, blockCodes}
+use Rattle.audit.specs.code.Starts.{Starts}
+use Rattle.audit.proofs.Partition.{block-lt, edge-start, apart, end-within, cell-lt}
+use Rattle.audit.specs.code.Blocks.{strange, strangeAt}
 
 eqb-add : (s h t : ℕ) → eqb (s + h) (s + t) ≡ eqb h t
 eqb-add s h t =

@@ -1,6 +1,5 @@
 -- One pass over the blocks of a table: before block j no code of a cell before it is misplaced, the first block before it of the wrong size is
 -- known, and the codes before it are counted.
--- Assumes nothing.
 use Prim.Native.Nat.{ℕ, _+_, _*_, _-_, _<_, _≤_}
 use mathlib.Core.Bool.{Bool, false, not}
 use mathlib.Core.List.{List, [], _∷_}
@@ -15,14 +14,13 @@ use lib.Seq.{drop-drop}
 use Rattle.table.specs.Answers.{given, refused, firstOf}
 use Rattle.table.specs.Words.{codeCount, cellCount, multiplier, total, blockStart, blockEnd, blockMultiplier}
 use Rattle.table.proofs.First.{Below, First, first-is, first-found, first-none, first-next}
-use Rattle.faults.specs.Check.{misplaced, badSquare, codesIn, blockCodes}
-use Rattle.audit.specs.Checked.{fromSquares, fromPlaces}
-use Rattle.faults.specs.Starts.{Starts}
-use Rattle.faults.specs.Places.{Right}
-use Rattle.audit.specs.Blocks.{strangeAt, firstNext, PartRead}
+use Rattle.audit.specs.Check.{misplaced, badSquare, codesIn, blockCodes}
+use Rattle.audit.specs.code.From.{fromSquares, fromPlaces}
+use Rattle.audit.specs.code.Starts.{Starts}
+use Rattle.audit.specs.code.Blocks.{strangeAt, firstNext, PartRead}
 use Rattle.audit.specs.declared.check.Part.{Part}
-use Rattle.faults.proofs.Counting.{codes-take, codes-le}
-use Rattle.faults.proofs.Partition.{edge, edge-start, edge-zero, edge-last, edge-within, start-le-end, end-within}
+use Rattle.audit.proofs.Counting.{codes-take, codes-le}
+use Rattle.audit.proofs.Partition.{edge, edge-start, edge-zero, edge-last, edge-within, start-le-end, end-within}
 use Rattle.audit.proofs.Parts.{part-length, strange-misplaced}
 
 pub record Surveyed (p : ℕ) (words : List ℕ) (j square codes : ℕ) : Type 0 where
@@ -128,9 +126,3 @@ surveyed-all {p} {words} s all =
     let none : firstOf (cellCount words) (misplaced p words) ≡ cellCount words
     = first-none (cellCount words) (misplaced p words) (λ i l. all .placed i (omega (arith, edge-last words s))) in
     rw (none, le-ltb (cellCount words) (cellCount words) (omega arith), all .squares, all .counted, edge-last words s) refl
-
--- of a table that the quick test passes
-pub right-accepted : {p : ℕ} {words : List ℕ} → Right p words → given (codeCount words ∷ total words ∷ []) ≡ fromPlaces p words
-unfolding fromPlaces
-right-accepted {p} {words} r =
-    rw (r .placed, r .square, r .all-codes, eq-eqb (codeCount words) (codeCount words) refl) refl

@@ -1,5 +1,4 @@
 -- A check accepts exactly the well-formed tables, and gives nothing else than n and the total of one.
--- Assumes nothing.
 use Prim.Native.Nat.{ℕ, _*_, _-_, _<_}
 use mathlib.Core.Bool.{Bool, false, not}
 use mathlib.Core.List.{List, [], _∷_}
@@ -13,15 +12,15 @@ use lib.ListN.{length}
 use Rattle.table.specs.Answers.{given, firstOf}
 use Rattle.table.specs.Words.{codeCount, cellCount, multiplier, total}
 use Rattle.table.specs.Lookup.{tooManyCodes, tooManyCells, badMultiplier, tooShort}
-use Rattle.table.specs.Sized.{Sized}
+use Rattle.table.specs.code.Sized.{Sized}
 use Rattle.table.proofs.Laws.{sized-by}
 use Rattle.table.proofs.First.{none-refused}
 use Rattle.table.proofs.Refusals.{Refusal, Passed, Settled, refusals-pass, refusals-given, refusals-settled}
-use Rattle.faults.specs.Check.{checkOf, badStart, badBlockMultiplier, badCell, misplaced, badSquare, codesIn, allCodes}
+use Rattle.audit.specs.Check.{checkOf, badStart, badBlockMultiplier, badCell, misplaced, badSquare, codesIn, allCodes}
 use Rattle.audit.specs.WellFormed.{WellFormed}
-use Rattle.faults.specs.Starts.{Starts}
-use Rattle.faults.proofs.Bounds.{some-codes}
-use Rattle.faults.proofs.Passing.{starts-pass, starts-hold, multiplier-passes, cell-passes, place-passes, square-passes}
+use Rattle.audit.specs.code.Starts.{Starts}
+use Rattle.audit.proofs.Bounds.{some-codes}
+use Rattle.audit.proofs.Passing.{starts-pass, starts-hold, multiplier-passes, cell-passes, place-passes, square-passes}
 
 first-refusal : ℕ → (ℕ → Bool) → ℕ → Refusal
 first-refusal n test number = record { fails = ltb (firstOf n test) n; number = number; value = firstOf n test }

@@ -5,7 +5,7 @@ use mathlib.Core.Logic.{_↔_}
 use mathlib.Core.Path.{_≡_}
 use lib.ListN.{length}
 use Rattle.table.specs.Words.{codeCount, cellCount, multiplier, total, blockStart, blockEnd, blockMultiplier, cellCode, cellSchedule, blockOf, ownCell}
-use Rattle.faults.specs.Check.{codesIn, blockCodes, allCodes}
+use Rattle.audit.specs.Check.{codesIn, blockCodes, allCodes}
 
 pub record WellFormed (p limit : ℕ) (words : List ℕ) : Type 0 where
   -- 11

@@ -2,8 +2,8 @@
 ghost use Prim.Native.Nat.{_+_, _-_, _<_};
 ghost use mathlib.Core.Path.{_≡_};
 ghost use lib.ListN.{length};
-ghost use Rattle.audit.specs.Blocks.{strange, firstNext, Tested};
-use faults::places::held;
+ghost use Rattle.audit.specs.code.Blocks.{strange, firstNext, Tested};
+use table::numbers::held;
 
 // What the test of a block finds: the index of the first code in a cell that is not its own, the number of cells where there is none; and how
 // many codes there are.

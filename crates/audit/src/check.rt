@@ -3,18 +3,18 @@ ghost use Prim.Native.Nat.{_<_, _≤_};
 ghost use mathlib.Core.Path.{_≡_};
 ghost use lib.ListN.{length};
 ghost use Rattle.table.specs.Words.{codeCount, total};
-ghost use Rattle.table.specs.Sized.{Sized};
-ghost use Rattle.faults.specs.Check.{checkOf};
-ghost use Rattle.audit.specs.Checked.{checkedOf, fromSquares, fromPlaces, fromStarts};
-ghost use Rattle.faults.specs.Starts.{Starts};
-ghost use Rattle.audit.specs.Blocks.{PartRead};
-ghost use Rattle.faults.specs.Places.{Passed};
+ghost use Rattle.table.specs.code.Sized.{Sized};
+ghost use Rattle.audit.specs.Check.{checkOf};
+ghost use Rattle.audit.specs.Checked.{checkedOf};
+ghost use Rattle.audit.specs.code.From.{fromSquares, fromPlaces, fromStarts};
+ghost use Rattle.audit.specs.code.Starts.{Starts};
+ghost use Rattle.audit.specs.code.Blocks.{PartRead};
 use crate::blocks::first_next;
 use crate::blocks::test_block;
-use conditions::first_bad_cell;
-use conditions::first_bad_multiplier;
-use conditions::first_bad_start;
-use faults::places::right;
+use crate::ranges::first_bad_cell;
+use crate::ranges::first_bad_multiplier;
+use crate::ranges::first_bad_start;
+use table::numbers::wide;
 use table::words::bad_multiplier;
 use table::words::block_end;
 use table::words::block_multiplier;
@@ -23,7 +23,6 @@ use table::words::too_many_cells;
 use table::words::too_many_codes;
 use table::words::too_short;
 use table::words::total;
-use table::words::wide;
 
 pub enum Checked {
     // n and the total
@@ -122,17 +121,6 @@ fn check_places(p: u32, words: &[u32]) -> Checked
     settle(words, square, codes)
 }
 
-// From 19 on. A table that the quick test passes is accepted at once; on any other the blocks are gone through for the refusal.
-fn check_cells(p: u32, words: &[u32]) -> Checked
-    requires { ⌜ (1 ≤ p) × Passed p 65536 (now words) ⌝ }
-    ensures { λ r. ⌜ checkedOf r ≡ fromPlaces p (now (words .entry)) ⌝ }
-{
-    if right(p, words) {
-        return Checked::Accepted(words[0], total(words) as u32);
-    }
-    check_places(p, words)
-}
-
 // From 16 on.
 fn check_blocks(p: u32, words: &[u32]) -> Checked
     requires { ⌜ (1 ≤ p) × Sized p 65536 (now words) ⌝ }
@@ -151,7 +139,7 @@ fn check_blocks(p: u32, words: &[u32]) -> Checked
     if cell < wide(words[1]) {
         return Checked::BadCell(cell as u32);
     }
-    check_cells(p, words)
+    check_places(p, words)
 }
 
 // The check for a prime p and a limit on the codes of a table.

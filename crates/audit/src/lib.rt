@@ -1,3 +1,5 @@
 // The check of a table from anywhere.
 mod blocks;
 pub mod check;
+pub mod numbered;
+mod ranges;

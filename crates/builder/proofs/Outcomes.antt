@@ -1,16 +1,16 @@
 -- The outcome of a build, test after test: a refusal keeps the words, and a list that passes 1 to 5 is built as an accepted one.
--- Assumes nothing.
 use Prim.Native.Nat.{ℕ, _-_, _<_, _≤_}
 use mathlib.Core.List.{List, [], _∷_}
 use mathlib.Core.Path.{_≡_, sym, ap, _∙_}
 use native.Mathlib.Omega.{arith}
 use borrow.Author.Tests.{eq-eqb, ne-eqb, lt-ltb, le-ltb}
 use lib.ListN.{length, getD}
-use Rattle.table.specs.Answers.{Answer, given, refused, outside, firstOf, filled}
+use Rattle.table.specs.Answers.{Answer, given, refused, outside, firstOf, filled, intoRoom}
 use Rattle.table.specs.TwoLevel.{tableOf, wordsNeeded}
-use Rattle.refusals.specs.Repeats.{repeated}
-use Rattle.builder.specs.Build.{badCode, badSchedule, listOr, buildOf, builtWords, Built}
-use Rattle.accepted.specs.Accepted.{acceptedOf, Accepted}
+use Rattle.lists.specs.List.{repeated}
+use Rattle.lists.specs.List.{badCode, badSchedule, listOr}
+use Rattle.builder.specs.Build.{buildOf, builtWords, Built}
+use Rattle.builder.specs.code.Valid.{ValidBuilt}
 
 -- no such index is found
 pub passes : {i m : ℕ} (n : ℕ) → i ≡ m → n ≤ i → n ≤ m
@@ -90,9 +90,9 @@ pub record Passed (p limit : ℕ) (codes schedules : List ℕ) : Type 0 where
 
 module _
     {p limit : ℕ} {codes schedules words : List ℕ} (h : Passed p limit codes schedules) {total : ℕ} {words′ : List ℕ}
-    (a : Accepted p codes schedules words total words′)
+    (a : ValidBuilt p codes schedules words total words′)
   where
-    is-accepted : buildOf p limit codes schedules (length words) ≡ acceptedOf p codes (length words)
+    is-accepted : buildOf p limit codes schedules (length words) ≡ intoRoom 6 (wordsNeeded p codes) (length words)
     unfolding buildOf listOr
     is-accepted =
         let m : ℕ = length codes in
@@ -104,7 +104,7 @@ module _
           le-ltb (firstOf m (repeated codes)) m (h .new),
         )
 
-    accepted-built : (answer : Answer) → answer ≡ acceptedOf p codes (length words) → Built p limit codes schedules words answer words′
+    accepted-built : (answer : Answer) → answer ≡ intoRoom 6 (wordsNeeded p codes) (length words) → Built p limit codes schedules words answer words′
     unfolding builtWords
     accepted-built answer is =
         record {

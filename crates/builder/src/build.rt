@@ -1,12 +1,12 @@
 // Building a table from a list (document 01, "Build"). A refusal changes no word.
 ghost use Prim.Native.Nat.{_≤_};
 ghost use Rattle.hash.specs.Theorems.{Prime};
-ghost use Rattle.search.specs.Searchable.{mostCodes};
+ghost use Rattle.table.specs.Limits.{room};
 ghost use Rattle.builder.specs.Build.{Built};
 ghost use Rattle.builder.specs.Built.{builtOf};
-use accepted::build_accepted;
-use refusals::range::first_outside;
-use refusals::repeats::first_repeated;
+use crate::valid::build_valid;
+use lists::range::first_outside;
+use lists::repeats::first_repeated;
 
 pub enum BuildAnswer {
     // the total
@@ -34,7 +34,7 @@ pub fn build_at(
     words: &mut [u32],
 ) -> BuildAnswer
     requires { ⌜ Prime p ⌝ }
-    requires { ⌜ limit ≤ mostCodes ⌝ }
+    requires { ⌜ limit ≤ room ⌝ }
     ensures { λ r.
         ⌜ Built p limit (now (codes .entry)) (now (schedules .entry)) (now (words .entry)) (builtOf r) (now (words .exit)) ⌝ }
 {
@@ -58,7 +58,7 @@ pub fn build_at(
         return BuildAnswer::Repeated(again as u32);
     }
     let lent = words.len();
-    let total = build_accepted(p, codes, schedules, words);
+    let total = build_valid(p, codes, schedules, words);
     if lent < (total as usize) {
         return BuildAnswer::TooShort(total);
     }

@@ -1,2 +1,4 @@
 // Building a table from a list.
 pub mod build;
+pub mod numbered;
+mod valid;

@@ -1,5 +1,4 @@
 -- Demands 2 and 3, for every valid list: a built table is well-formed, so what is proved of tables from anywhere holds of it.
--- Assumes nothing.
 use Prim.Native.Nat.{ℕ, _≤_}
 use native.Mathlib.Omega.{arith}
 use mathlib.Core.List.{List, [], _∷_}
@@ -11,7 +10,8 @@ use Rattle.table.specs.TwoLevel.{wordsNeeded, tableOf}
 use Rattle.table.specs.Lookup.{lookupOf}
 use Rattle.table.proofs.Contents.{Tabled, tabled}
 use Rattle.audit.specs.WellFormed.{WellFormed}
-use Rattle.reader.specs.Pairs.{codesOf, schedulesOf, pairsIn}
+use Rattle.table.specs.Pairs.{codesOf, schedulesOf}
+use Rattle.reader.specs.Pairs.{pairsIn}
 use Rattle.audit.proofs.Lookups.{lookup-range}
 use Rattle.builder.specs.Build.{builtWords}
 use Rattle.demands.specs.Lists.{Valid, Listed, rightAnswer, enough, lookedAt}

@@ -1,6 +1,5 @@
 -- A build of a valid list succeeds in enough words: none of 1 to 5 holds, and the total is at most 8n - 1 (3), so neither does 6. It
 -- leaves the table, and after it the words as they were.
--- Assumes nothing.
 use Prim.Native.Nat.{ℕ, _≤_}
 use native.Mathlib.Decide.{ℕ-discrete}
 use native.Mathlib.Omega.{arith}
@@ -15,8 +14,9 @@ use Rattle.table.specs.Answers.{Answer, given, filled, over}
 use Rattle.table.specs.TwoLevel.{wordsNeeded, tableOf}
 use Rattle.table.proofs.Chosen.{few-cells, no-cells}
 use Rattle.table.proofs.Contents.{needed-is, table-length}
-use Rattle.builder.specs.Build.{listOr, buildOf, builtWords}
-use Rattle.builder.proofs.Valid.{list-accepted}
+use Rattle.lists.specs.List.{listOr}
+use Rattle.builder.specs.Build.{buildOf, builtWords}
+use Rattle.lists.proofs.Valid.{list-accepted}
 use Rattle.demands.specs.Lists.{Valid, enough}
 
 module _ {p limit : ℕ} (codes schedules : List ℕ) (valid : Valid p limit codes schedules) where

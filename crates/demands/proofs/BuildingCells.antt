@@ -1,6 +1,5 @@
 -- How many codes the cells of a built table hold: each block as many as it has codes, for its q puts them in different cells, and all
 -- blocks together n.
--- Assumes nothing.
 use Prim.Native.Nat.{ℕ, zero, suc, _+_, _*_, _<_, _≤_}
 use native.Mathlib.Decide.{ℕ-discrete}
 use native.Mathlib.Nat.{mul-pos}
@@ -20,11 +19,11 @@ use Rattle.hash.proofs.Members.{codes-tail, members-codes}
 use Rattle.table.specs.TwoLevel.{tabulate, startOf, heldIn}
 use Rattle.table.proofs.Front.{sizeOf, blockQ, start-last, Fronted}
 use Rattle.table.proofs.Own.{block-apart}
-use Rattle.faults.specs.Check.{codesIn}
-use Rattle.faults.proofs.Counting.{codes-append}
-use Rattle.cells.specs.Placed.{heldBy}
-use Rattle.cells.proofs.PlacedLaws.{heldBy-here, heldBy-later, heldBy-none}
-use Rattle.cells.proofs.BlockCells.{block-codes}
+use Rattle.audit.specs.Check.{codesIn}
+use Rattle.audit.proofs.Counting.{codes-append}
+use Rattle.search.specs.code.Placed.{heldBy}
+use Rattle.search.proofs.PlacedLaws.{heldBy-here, heldBy-later, heldBy-none}
+use Rattle.search.proofs.BlockCells.{block-codes}
 
 -- a cell counts where it holds a code
 abbrev full : ℕ → ℕ

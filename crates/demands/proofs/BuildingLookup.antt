@@ -1,5 +1,4 @@
 -- Lookups in a built table are right: a listed code stands in its own cell with its schedule, and no cell holds another code.
--- Assumes nothing.
 use Prim.Native.Nat.{ℕ, _<_, _≤_}
 use native.Mathlib.Omega.{arith}
 use mathlib.Core.List.{List, [], _∷_}

@@ -1,6 +1,5 @@
 -- Words that begin with the table of a valid list are well-formed: its sizes keep the bounds, its blocks follow one another, and each
 -- cell is empty or holds a listed code that is its own.
--- Assumes nothing.
 use Prim.Native.Nat.{ℕ, suc, _+_, _*_, _-_, _<_, _≤_}
 use native.Mathlib.Nat.{add-assoc, mul-pos}
 use native.Mathlib.Omega.{arith}
@@ -19,10 +18,10 @@ use Rattle.table.proofs.Front.{sizeOf, blockQ, start-first, start-next, start-r
 use Rattle.table.proofs.Chosen.{cells-least, blocks-range, few-cells, no-cells}
 use Rattle.table.proofs.Own.{listed-load}
 use Rattle.table.proofs.Contents.{Tabled, Filled, Empty, filled-or-empty, cellsOf-is, needed-is}
-use Rattle.faults.specs.Check.{codesIn, blockCodes, allCodes}
+use Rattle.audit.specs.Check.{codesIn, blockCodes, allCodes}
 use Rattle.audit.specs.WellFormed.{WellFormed}
-use Rattle.cells.specs.Placed.{heldBy}
-use Rattle.cells.proofs.BlockCells.{held-codes}
+use Rattle.search.specs.code.Placed.{heldBy}
+use Rattle.search.proofs.BlockCells.{held-codes}
 use Rattle.demands.specs.Lists.{Valid}
 use Rattle.demands.proofs.BuildingCells.{block-full, table-full}
 

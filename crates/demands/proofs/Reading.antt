@@ -1,6 +1,5 @@
 -- What is proved of tables from anywhere, for any prime and limit: the pairs read from a well-formed table are a valid list, by rising code, and
 -- are listed exactly where a lookup finds them. A pair stands in the list of pairs where it stands in the lists of codes and schedules.
--- Assumes nothing.
 use Prim.Native.Nat.{ℕ, zero, suc, _<_, _≤_}
 use native.Mathlib.Omega.{arith}
 use mathlib.Core.List.{List, [], _∷_, List·Memᴰ, List·Memᴰ·head, List·Memᴰ·tail}
@@ -11,9 +10,10 @@ use lib.ListN.{length, getD, length-map}
 use Rattle.table.specs.Answers.{given}
 use Rattle.table.specs.Words.{codeCount}
 use Rattle.table.specs.Lookup.{lookupOf}
-use Rattle.faults.specs.Check.{checkOf}
+use Rattle.audit.specs.Check.{checkOf}
 use Rattle.audit.specs.WellFormed.{WellFormed}
-use Rattle.reader.specs.Pairs.{Pair, codesOf, schedulesOf, pairsIn, pairsOf}
+use Rattle.table.specs.Pairs.{Pair, codesOf, schedulesOf}
+use Rattle.reader.specs.Pairs.{pairsIn, pairsOf}
 use Rattle.audit.proofs.WellFormed.{check-exactly}
 use Rattle.reader.proofs.PairLaws as Pairs
 use Rattle.demands.specs.Lists.{Valid, Listed}

@@ -1,5 +1,4 @@
 -- The right answer to a code is a schedule exactly where the code is listed with it.
--- Assumes nothing.
 use Prim.Native.Nat.{ℕ, zero, suc, _<_}
 use native.Mathlib.Decide.{ℕ-discrete}
 use native.Mathlib.Omega.{arith}

@@ -1,7 +1,6 @@
 -- Of any words, checked or not, at most eight settle the answer to a code: a lookup reads n, c and k, then of the code's block its start, its
 -- end and its q, then of one cell its code and its schedule. It reads no block where n is 0, and no cell where the block has none, and neither
 -- does `lookedAt`; so the one answer is rewritten, word by word, into the other.
--- Assumes nothing.
 use Prim.Native.Nat.{ℕ, _+_, _*_, _<_, _≤_}
 use mathlib.Core.Bool.{Bool, true, false, cond}
 use mathlib.Core.List.{List, [], _∷_}

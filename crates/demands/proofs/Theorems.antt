@@ -1,4 +1,4 @@
--- Every record of specs/Theorems.antt, by its proof. Assumes nothing.
+-- Every record of specs/Theorems.antt, by its proof.
 use Rattle.demands.specs.Theorems.{Reading, Building}
 use Rattle.demands.proofs.Reading as on-reading
 use Rattle.demands.proofs.Building as on-building

@@ -1,5 +1,4 @@
 -- The words that settle a lookup in a well-formed table are words of the table: each of their positions is below its total.
--- Assumes nothing.
 use Prim.Native.Nat.{ℕ, zero, suc, _+_, _*_, _<_}
 use native.Mathlib.Nat.{pos-of-ne-zero}
 use native.Mathlib.Omega.{arith}
@@ -11,7 +10,7 @@ use lib.ListN.{length, getD}
 use borrow.Author.Tests.{eqb-false, ltb-true}
 use Rattle.table.specs.Words.{codeCount, cellCount, total, blockStart, blockEnd, blockOf, cellIn, ownCell}
 use Rattle.audit.specs.WellFormed.{WellFormed}
-use Rattle.faults.proofs.Partition.{block-lt, end-within, cell-lt}
+use Rattle.audit.proofs.Partition.{block-lt, end-within, cell-lt}
 use Rattle.audit.proofs.Lookups.{starts}
 use Rattle.demands.specs.Lists.{lookedAt}
 

@@ -9,9 +9,10 @@ use Rattle.table.specs.Answers.{given}
 use Rattle.table.specs.Words.{codeCount, total}
 use Rattle.table.specs.TwoLevel.{wordsNeeded, tableOf}
 use Rattle.table.specs.Lookup.{lookupOf}
-use Rattle.faults.specs.Check.{checkOf}
+use Rattle.audit.specs.Check.{checkOf}
 use Rattle.audit.specs.WellFormed.{WellFormed}
-use Rattle.reader.specs.Pairs.{codesOf, schedulesOf, pairsIn, pairsOf}
+use Rattle.table.specs.Pairs.{codesOf, schedulesOf}
+use Rattle.reader.specs.Pairs.{pairsIn, pairsOf}
 use Rattle.builder.specs.Build.{buildOf, builtWords}
 use Rattle.demands.specs.Lists.{Valid, Listed, SamePairs, rightAnswer, enough, AgreeAt, lookedAt}
 

@@ -1,6 +1,5 @@
 -- The changed pairs of a table over plain lists. The codes of a table are different, so to leave out the pair of a code is to leave out the
 -- element at the code's index; and what is left is a list of codes again, before which the code itself is new.
--- Assumes nothing.
 use Prim.Native.Nat.{ℕ, zero, suc, _<_}
 use native.Mathlib.Decide.{ℕ-discrete, decLt}
 use native.Mathlib.Omega.{arith}
@@ -14,11 +13,11 @@ use lib.Seq.{take-length}
 use Rattle.hash.specs.Hash.{Codes}
 use Rattle.hash.proofs.Members.{codes-cons, codes-tail, codes-new}
 use Rattle.table.proofs.First.{First}
-use Rattle.reader.specs.Pairs.{Pair, codesOf}
-use Rattle.refusals.specs.Repeats.{among}
-use Rattle.refusals.proofs.Among.{among-at, among-none}
+use Rattle.table.specs.Pairs.{Pair, codesOf}
+use Rattle.table.specs.Pairs.{among}
+use Rattle.table.proofs.Among.{among-at, among-none}
 use Rattle.editor.specs.Edit.{without, withPair}
-use Rattle.editor.specs.Lists.{omit}
+use Rattle.editor.specs.code.Lists.{omit}
 
 -- i is the index of a code, or the list's length where it is not among them
 abbrev pub At : ℕ → List ℕ → ℕ → Type 0

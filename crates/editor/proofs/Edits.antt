@@ -1,7 +1,6 @@
 -- An edit of a well-formed table, over plain lists. The code's index tells whether the table has it and which pairs are left; the changed pairs
 -- can be built from: they are different codes in range with schedules in range, and not too many, since the code of an insert is in the old
 -- table or the old table is not full.
--- Assumes nothing.
 use Prim.Native.Nat.{ℕ, suc, _+_, _-_, _<_, _≤_}
 use native.Mathlib.Decide.{decLt}
 use native.Mathlib.Omega.{arith}
@@ -20,13 +19,14 @@ use Rattle.table.specs.Words.{codeCount}
 use Rattle.table.specs.TwoLevel.{tableOf}
 use Rattle.table.proofs.First.{first-is}
 use Rattle.audit.specs.WellFormed.{WellFormed}
-use Rattle.reader.specs.Pairs.{Pair, codesOf, schedulesOf, pairsIn}
-use Rattle.reader.specs.ReadBack.{PairsWritten}
+use Rattle.table.specs.Pairs.{Pair, codesOf, schedulesOf}
+use Rattle.reader.specs.Pairs.{pairsIn}
+use Rattle.reader.specs.code.Writing.{PairsWritten}
 use Rattle.reader.proofs.PairLaws.{pairs-length, pairs-codes, pair-schedule}
-use Rattle.builder.proofs.Valid.{list-accepted}
+use Rattle.lists.proofs.Valid.{list-accepted}
 use Rattle.editor.specs.Edit.{without, withPair, present, rebuilt, tableOfPairs}
-use Rattle.editor.specs.Edited.{Outcome, Listable, InRange, fromTotal, fromFull, fromThere, Rebuilding, PutIn, TakenOut}
-use Rattle.editor.specs.Lists.{omit}
+use Rattle.editor.specs.code.Editing.{Outcome, Listable, InRange, fromTotal, fromFull, fromThere, Rebuilding, PutIn, TakenOut}
+use Rattle.editor.specs.code.Lists.{omit}
 use Rattle.editor.proofs.Omitted.{omit-length, omit-none, omit-map, omit-take}
 use Rattle.editor.proofs.Changed.{At, among-index, without-at, without-mem, without-codes, with-codes}
 

@@ -1,6 +1,5 @@
 -- A list with one element left out. The code leaves it out in place: a gap goes from the element's index, one place with each step, to the end
 -- of the list or to its front, and the list without the gap stays the same.
--- Assumes nothing.
 use Prim.Native.Nat.{ℕ, zero, suc, _+_, _-_, _<_, _≤_}
 use native.Mathlib.Nat.{eq-or-lt-of-le}
 use native.Mathlib.Numerals.{add-one}
@@ -10,7 +9,7 @@ use mathlib.Core.Logic.{inl, inr}
 use mathlib.Core.Path.{_≡_, refl, sym, ap, _∙_}
 use lib.ListN.{length, getD, set, take, drop, length-set, take-append-drop}
 use lib.Seq.{take-append-seam, take-take, take-set-lt, getD-take, length-take-le}
-use Rattle.editor.specs.Lists.{omit}
+use Rattle.editor.specs.code.Lists.{omit}
 
 module _ {A : Type 0} where
   -- ---- a step of the gap

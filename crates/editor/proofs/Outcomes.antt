@@ -1,15 +1,14 @@
 -- The outcome of an edit, test after test, up to the pairs of an accepted table: a refusal keeps the second buffer.
--- Assumes nothing.
 use Prim.Native.Nat.{ℕ, _-_}
 use mathlib.Core.Bool.{true, false}
 use mathlib.Core.List.{List}
 use mathlib.Core.Path.{_≡_, refl, sym, _∙_}
 use lib.ListN.{length}
 use Rattle.table.specs.Answers.{Answer, given, refused, outside}
-use Rattle.faults.specs.Check.{checkOf}
+use Rattle.audit.specs.Check.{checkOf}
 use Rattle.reader.specs.Pairs.{pairsIn}
 use Rattle.editor.specs.Edit.{without, withPair, tableOfPairs, insertOf, removeOf, Inserted, Removed}
-use Rattle.editor.specs.Edited.{Outcome, fromFull, PutIn, fromThere, TakenOut}
+use Rattle.editor.specs.code.Editing.{Outcome, fromFull, PutIn, fromThere, TakenOut}
 use Rattle.editor.proofs.Edits.{refusal}
 
 -- the answer is a refusal

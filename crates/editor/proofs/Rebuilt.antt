@@ -1,5 +1,4 @@
 -- A build of a list that none of 1 to 5 refuses gives the total, or refuses by 6 with it; of an edit 6 is 54.
--- Assumes nothing.
 use Prim.Native.Nat.{ℕ}
 use mathlib.Core.Bool.{Bool, true, false}
 use mathlib.Core.List.{List, [], _∷_}
@@ -9,16 +8,15 @@ use denote.Enum.Declared.{tagOf}
 use types.Run.{OneOf, miss}
 use lib.Dec.{ltb}
 use lib.ListN.{length}
-use Rattle.table.specs.Answers.{Answer, given, refused, refuse, filled}
+use Rattle.table.specs.Answers.{Answer, given, refused, refuse, filled, intoRoom}
 use Rattle.table.specs.TwoLevel.{wordsNeeded, tableOf}
 use Rattle.table.proofs.Refusals.{never-both}
 use Rattle.builder.specs.Build.{buildOf, builtWords, Built}
 use Rattle.builder.specs.Built.{builtOf}
-use Rattle.accepted.specs.Accepted.{acceptedOf}
 use Rattle.builder.specs.declared.build.BuildAnswer.{BuildAnswer}
 use Rattle.builder.specs.declared.build.BuildAnswer.the-variants as Case
 use Rattle.builder.proofs.build.BuildAnswer.{the-type}
-use Rattle.editor.specs.Edited.{fromTotal, Outcome, Listable}
+use Rattle.editor.specs.code.Editing.{fromTotal, Outcome, Listable}
 
 -- by the test of 6, with the total
 module _ (total : ℕ) (table second : List ℕ) where
@@ -40,13 +38,13 @@ module _ (total : ℕ) (table second : List ℕ) where
   refused-outcome false number value e = never-both refl e
 
 module _ {p limit : ℕ} {codes schedules : List ℕ} (l : Listable p limit codes schedules) where
-  answer-is : (lent : ℕ) → buildOf p limit codes schedules lent ≡ acceptedOf p codes lent
+  answer-is : (lent : ℕ) → buildOf p limit codes schedules lent ≡ intoRoom 6 (wordsNeeded p codes) lent
   unfolding buildOf
   answer-is lent = l .passes _
 
   words-are :
       {second second′ : List ℕ} {a : Answer} → Built p limit codes schedules second a second′
-      → second′ ≡ filled (acceptedOf p codes (length second)) (tableOf p codes schedules) second
+      → second′ ≡ filled (intoRoom 6 (wordsNeeded p codes) (length second)) (tableOf p codes schedules) second
   unfolding builtWords
   words-are {second} b = b .words-at-exit ∙ ap (λ (r : Answer). filled r (tableOf p codes schedules) second) (answer-is (length second))
 

@@ -3,14 +3,14 @@ use Prim.Native.Nat.{ℕ, _-_}
 use mathlib.Core.Bool.{Bool, not, cond, _&&_}
 use mathlib.Core.List.{List, [], _∷_}
 use mathlib.Core.Path.{_≡_}
-use lib.Dec.{eqb, ltb}
+use lib.Dec.{eqb}
 use lib.ListN.{length}
-use Rattle.table.specs.Answers.{Answer, given, refuse, orRefused, outside, filled}
+use Rattle.table.specs.Answers.{Answer, refuse, orRefused, intoRoom, outside, filled}
 use Rattle.table.specs.Words.{codeCount}
 use Rattle.table.specs.TwoLevel.{wordsNeeded, tableOf}
-use Rattle.faults.specs.Check.{checkOf}
-use Rattle.reader.specs.Pairs.{Pair, codesOf, schedulesOf, pairsIn}
-use Rattle.refusals.specs.Repeats.{among}
+use Rattle.audit.specs.Check.{checkOf}
+use Rattle.table.specs.Pairs.{Pair, codesOf, schedulesOf, among}
+use Rattle.reader.specs.Pairs.{pairsIn}
 
 -- the pairs without a code
 unfoldable pub without : ℕ → List Pair → List Pair
@@ -28,9 +28,7 @@ present words code = among code (codesOf (pairsIn words))
 
 -- the answer where a changed list is built into this many lent words
 unfoldable pub rebuilt : ℕ → List Pair → ℕ → Answer
-rebuilt p pairs lent =
-    refuse (ltb lent (wordsNeeded p (codesOf pairs))) 54 (wordsNeeded p (codesOf pairs))
-    (given (wordsNeeded p (codesOf pairs) ∷ []))
+rebuilt p pairs lent = intoRoom 54 (wordsNeeded p (codesOf pairs)) lent
 
 -- the table of a changed list
 abbrev pub tableOfPairs : ℕ → List Pair → List ℕ

@@ -1,4 +1,5 @@
--- What insert and remove answer, and the words that they leave; then what the code promises.
+-- What insert and remove answer, and the words that they leave.
 pub mod Edit
-pub mod Lists
 pub mod Edited
+-- What the parts of the code rely on and promise.
+pub mod code

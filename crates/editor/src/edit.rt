@@ -5,19 +5,20 @@ ghost use mathlib.Core.Path.{_≡_};
 ghost use lib.Dec.{eqb};
 ghost use Rattle.hash.specs.Theorems.{Prime};
 ghost use Rattle.audit.specs.WellFormed.{WellFormed};
-ghost use Rattle.search.specs.Searchable.{mostCodes};
+ghost use Rattle.table.specs.Limits.{room};
 ghost use Rattle.editor.specs.Edit.{Inserted, Removed};
-ghost use Rattle.editor.specs.Edited.{editedOf, Listable, InRange, Rebuilding, PutIn, TakenOut};
-use crate::lists::leave_out;
-use crate::lists::position;
-use crate::lists::put_first;
+ghost use Rattle.editor.specs.Edited.{editedOf};
+ghost use Rattle.editor.specs.code.Editing.{Listable, InRange, Rebuilding, PutIn, TakenOut};
+use crate::changes::leave_out;
+use crate::changes::position;
+use crate::changes::put_first;
 use audit::check::Checked;
 use audit::check::check_at;
 use builder::build::BuildAnswer;
 use builder::build::build_at;
 use reader::pairs::write_pairs;
-use table::words::outside;
-use table::words::wide;
+use table::numbers::outside;
+use table::numbers::wide;
 
 // The most pairs that the local arrays hold.
 const ROOM: usize = 2048;
@@ -42,7 +43,7 @@ pub enum Edited {
 // From 54 on: builds a changed list.
 fn rebuild(p: u32, limit: u32, codes: &[u32], schedules: &[u32], second: &mut [u32]) -> Edited
     requires { ⌜ Prime p ⌝ }
-    requires { ⌜ limit ≤ mostCodes ⌝ }
+    requires { ⌜ limit ≤ room ⌝ }
     requires { ⌜ Listable p limit (now codes) (now schedules) ⌝ }
     ensures { λ r. ⌜ Rebuilding p (now (codes .entry)) (now (schedules .entry)) (now (second .entry)) (editedOf r) (now (second .exit)) ⌝ }
 {
@@ -69,7 +70,7 @@ fn grown(n: usize, i: usize) -> usize
 // From 53 on: puts a pair first in the lists of an accepted table, in place of the code's own.
 fn put_in(p: u32, limit: u32, words: &[u32], code: u32, schedule: u32, second: &mut [u32]) -> Edited
     requires { ⌜ Prime p ⌝ }
-    requires { ⌜ limit ≤ mostCodes ⌝ }
+    requires { ⌜ limit ≤ room ⌝ }
     requires { ⌜ WellFormed p limit (now words) ⌝ }
     requires { ⌜ InRange p code schedule ⌝ }
     ensures { λ r. ⌜ PutIn p limit (now (words .entry)) code schedule (now (second .entry)) (editedOf r) (now (second .exit)) ⌝ }
@@ -91,7 +92,7 @@ fn put_in(p: u32, limit: u32, words: &[u32], code: u32, schedule: u32, second: &
 // From 55 on: leaves the code's pair out of the lists of an accepted table.
 fn take_out(p: u32, limit: u32, words: &[u32], code: u32, second: &mut [u32]) -> Edited
     requires { ⌜ Prime p ⌝ }
-    requires { ⌜ limit ≤ mostCodes ⌝ }
+    requires { ⌜ limit ≤ room ⌝ }
     requires { ⌜ WellFormed p limit (now words) ⌝ }
     ensures { λ r. ⌜ TakenOut p (now (words .entry)) code (now (second .entry)) (editedOf r) (now (second .exit)) ⌝ }
 {
@@ -119,7 +120,7 @@ pub fn insert_at(
     second: &mut [u32],
 ) -> Edited
     requires { ⌜ Prime p ⌝ }
-    requires { ⌜ limit ≤ mostCodes ⌝ }
+    requires { ⌜ limit ≤ room ⌝ }
     ensures { λ r. ⌜ Inserted p limit (now (words .entry)) code schedule (now (second .entry)) (editedOf r) (now (second .exit)) ⌝ }
 {
     if outside(1, p - 1, code) {
@@ -138,7 +139,7 @@ pub fn insert_at(
 // Taking out for a prime p and a limit on the codes of a table.
 pub fn remove_at(p: u32, limit: u32, words: &[u32], code: u32, second: &mut [u32]) -> Edited
     requires { ⌜ Prime p ⌝ }
-    requires { ⌜ limit ≤ mostCodes ⌝ }
+    requires { ⌜ limit ≤ room ⌝ }
     ensures { λ r. ⌜ Removed p limit (now (words .entry)) code (now (second .entry)) (editedOf r) (now (second .exit)) ⌝ }
 {
     if outside(1, p - 1, code) {

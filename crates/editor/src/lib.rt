@@ -1,3 +1,4 @@
 // Put in, take out.
+mod changes;
 pub mod edit;
-mod lists;
+pub mod numbered;

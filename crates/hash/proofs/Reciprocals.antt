@@ -4,7 +4,7 @@ use Prim.Native.Nat.{ℕ, _+_, _*_, _/_, _%_, _<_, _≤_}
 use mathlib.Core.Path.{_≡_}
 use native.Mathlib.Nat.{mod-lt, div-add-mod', mul-le-mul-left, mul-le-mul-right, div-eq-of-lt-le, lt-of-mul-lt-mul-right}
 use native.Mathlib.Omega.{arith}
-use Rattle.hash.specs.Contract.{Reciprocal}
+use Rattle.hash.specs.code.Contract.{Reciprocal}
 
 -- both bounds of the quotient q, the upper one with both sides times w
 divided :

@@ -1,4 +1,5 @@
--- In reading order: the hash function and the least multiplier, what is proved of them, and the contract of the one function.
+-- In reading order: the hash function and the least multiplier, and what is proved of them.
 pub mod Hash
 pub mod Theorems
-pub mod Contract
+-- What the functions answer.
+pub mod code

@@ -1,7 +1,7 @@
 // The one hash function. Codes, multipliers and the prime are words of 32 bits; their products take 64.
 ghost use Prim.Native.Nat.{_*_, _<_, _≤_};
 ghost use mathlib.Core.Path.{_≡_};
-ghost use Rattle.hash.specs.Contract.{Hashed, Remainder, Ready};
+ghost use Rattle.hash.specs.code.Contract.{Hashed, Remainder, Ready};
 
 // x mod 65,537, without a division: 65,536 is one less than it, so the upper half of x counts negative.
 fn by_halves(x: u64) -> u32

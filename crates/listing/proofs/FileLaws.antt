@@ -1,5 +1,4 @@
 -- The text for a file: which answer leads to which lines, and what reading back leaves in the two arrays.
--- Assumes nothing.
 use Prim.Native.Nat.{ℕ, _%_, _<_, _≤_}
 use mathlib.Core.List.{List, [], _∷_, _++_, map}
 use mathlib.Core.Logic.{⊎-elim}
@@ -11,17 +10,19 @@ use lib.ListN.{length, take, drop, length-map}
 use lib.Seq.{take-at}
 use Rattle.table.specs.Answers.{Answer, given, refused}
 use Rattle.table.specs.Words.{codeCount}
-use Rattle.faults.specs.Check.{checkOf}
-use Rattle.reader.specs.Pairs.{Pair, codesOf, schedulesOf, pairsIn, pairsOf, PairsRead}
+use Rattle.audit.specs.Check.{checkOf}
+use Rattle.table.specs.Pairs.{Pair, codesOf, schedulesOf}
+use Rattle.reader.specs.Pairs.{pairsIn, pairsOf, PairsRead}
 use Rattle.audit.specs.WellFormed.{WellFormed}
 use Rattle.reader.proofs.PairLaws.{pairs-length}
 use Rattle.audit.proofs.WellFormed.{accepted-or-refused, check-exactly}
-use Rattle.text.specs.Added.{Added}
-use Rattle.listing.specs.Files.{FileListed, numberedOf, tableLines, textOf}
-use Rattle.listing.specs.declared.files.Numbered.the-variants.{Given, Refused}
-use Rattle.text.specs.Bytes.{wordsOf}
+use Rattle.decimal.specs.code.Added.{Added}
+use Rattle.listing.specs.Listing.{FileListed}
+use Rattle.listing.specs.code.Texts.{numberedOf, tableLines, textOf}
+use Rattle.listing.specs.declared.texts.Numbered.the-variants.{Given, Refused}
+use Rattle.files.specs.Bytes.{wordsOf}
 use Rattle.listing.specs.Listing.{refusedLine, tableText, fileOf, listingOf}
-use Rattle.text.proofs.Added.{kept}
+use Rattle.decimal.proofs.Added.{kept}
 use Rattle.listing.proofs.LineLaws.{paired-same}
 
 -- the text for bytes, by their number

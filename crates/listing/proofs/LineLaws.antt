@@ -1,5 +1,4 @@
 -- How long each line is, and the lines of pairs one by one.
--- Assumes nothing.
 use Prim.Native.Nat.{ℕ, _+_, _*_, _<_, _≤_}
 use mathlib.Core.List.{List, [], _∷_, _++_, append-assoc}
 use mathlib.Core.Path.{_≡_, refl, ap}
@@ -7,12 +6,13 @@ use native.Mathlib.Numerals.{add-one}
 use native.Mathlib.Omega.{arith}
 use lib.ListN.{length, drop, getD, length-append}
 use lib.Seq.{drop-cons}
-use Rattle.reader.specs.Pairs.{Pair, codesOf, schedulesOf}
-use Rattle.text.specs.Added.{Added}
-use Rattle.text.specs.Decimal.{decimal}
+use Rattle.table.specs.Pairs.{Pair, codesOf, schedulesOf}
+use Rattle.decimal.specs.code.Added.{Added}
+use Rattle.decimal.specs.Decimal.{decimal}
 use Rattle.listing.specs.Listing.{refusedLine, headLine, pairLines}
-use Rattle.listing.specs.Lines.{pairLine, paired}
-use Rattle.text.proofs.Decimal.{decimal-few}
+use Rattle.listing.specs.code.Lines.{pairLine}
+use Rattle.table.specs.Pairs.{paired}
+use Rattle.decimal.proofs.Decimal.{decimal-few}
 
 pub refused-length :
     (number value : ℕ) → length (refusedLine number value) ≡ 10 + length (decimal number) + length (decimal value)

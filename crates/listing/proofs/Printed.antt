@@ -3,10 +3,10 @@ use mathlib.Core.Path.{refl}
 use Rattle.hash.specs.Hash.{hashOf}
 use Rattle.table.specs.Answers.{firstOf}
 use Rattle.table.specs.Words.{blockOf, cellIn, ownCell}
-use Rattle.faults.specs.Check.{badStart, badBlockMultiplier, badCell, misplaced, codesIn, badSquare, checkOf}
+use Rattle.audit.specs.Check.{badStart, badBlockMultiplier, badCell, misplaced, codesIn, badSquare, checkOf}
 use Rattle.reader.specs.Pairs.{stored, place, rising, pairsIn}
-use Rattle.text.specs.Bytes.{wordsOf}
-use Rattle.text.specs.Decimal.{digitsOf, decimal}
+use Rattle.files.specs.Bytes.{wordsOf}
+use Rattle.decimal.specs.Decimal.{digitsOf, decimal}
 use Rattle.listing.specs.Listing.{refusedLine, headLine, pairLines, tableText, fileOf, listingOf}
 use Rattle.listing.specs.Printed.{Printed}
 

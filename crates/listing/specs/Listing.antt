@@ -1,16 +1,18 @@
 -- The text that lists a table file (document 01, "The program that lists"), for any prime p and limit on the codes.
 -- A byte is a number below 256. Words of the text are written as their bytes, with the letters beside them.
-use Prim.Native.Nat.{ℕ, _%_}
+use Prim.Native.Nat.{ℕ, _%_, _≤_}
 use mathlib.Core.Bool.{not}
 use mathlib.Core.List.{List, [], _∷_, _++_}
+use mathlib.Core.Path.{_≡_}
 use lib.Dec.{eqb, ltb}
 use lib.ListN.{length}
-use Rattle.text.specs.Bytes.{wordsOf}
-use Rattle.text.specs.Decimal.{decimal}
-use Rattle.table.specs.Answers.{Answer, given, absent, unknown, refused, refuse}
+use Rattle.files.specs.Bytes.{wordsOf}
+use Rattle.decimal.specs.Decimal.{decimal}
+use Rattle.table.specs.Answers.{Answer, given, absent, unknown, refused, refuse, over}
 use Rattle.table.specs.Words.{codeCount, cellCount, multiplier}
-use Rattle.faults.specs.Check.{checkOf}
-use Rattle.reader.specs.Pairs.{Pair, pairsIn}
+use Rattle.audit.specs.Check.{checkOf}
+use Rattle.table.specs.Pairs.{Pair}
+use Rattle.reader.specs.Pairs.{pairsIn}
 
 abbrev pub space : List ℕ
 space = 32 ∷ []
@@ -76,3 +78,9 @@ listingOf p limit bytes =
       | unknown i ↦ []
       | refused number value ↦ refusedLine number value
     ]
+
+-- the listing of a file's bytes, written over the first bytes of what was lent; the answer is its length
+pub record FileListed (p limit : ℕ) (bytes old : List ℕ) (answer : ℕ) (new : List ℕ) : Type 0 where
+  pub length-is : answer ≡ length (listingOf p limit bytes)
+  pub text : new ≡ over (listingOf p limit bytes) old
+  pub fits : answer ≤ length new

@@ -1,14 +1,15 @@
 // The lines of a listing, each written from `at` on; the answer is where it ends, and every other byte is kept.
-use text::text::put;
-use text::text::put_all;
-use text::text::put_decimal;
+use decimal::put;
+use decimal::put_all;
+use decimal::put_decimal;
 ghost use Prim.Native.Nat.{_+_, _≤_};
 ghost use mathlib.Core.List.{_++_};
 ghost use mathlib.Core.Path.{_≡_};
 ghost use lib.ListN.{length};
-ghost use Rattle.text.specs.Added.{Added};
-ghost use Rattle.listing.specs.Lines.{pairLine, paired};
-ghost use Rattle.text.specs.Decimal.{decimal};
+ghost use Rattle.decimal.specs.code.Added.{Added};
+ghost use Rattle.listing.specs.code.Lines.{pairLine};
+ghost use Rattle.table.specs.Pairs.{paired};
+ghost use Rattle.decimal.specs.Decimal.{decimal};
 ghost use Rattle.listing.specs.Listing.{refusedLine, headLine, pairLines};
 
 // A number after its name, which comes with the spaces that part it from its neighbours.

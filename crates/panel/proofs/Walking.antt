@@ -1,5 +1,4 @@
 -- The walk of a panel from index i on, over plain lists: it ends after the last code, goes on at a schedule, and ends at any other answer.
--- Assumes nothing.
 use Prim.Native.Nat.{ℕ, _+_, max, _<_, _≤_}
 use mathlib.Core.List.{List, [], _∷_}
 use mathlib.Core.Path.{_≡_}
@@ -12,7 +11,7 @@ use lib.Seq.{drop-cons}
 use denote.Enum.Declared.{tagOf}
 use types.Run.{OneOf, miss}
 use Rattle.table.specs.Answers.{given}
-use Rattle.table.specs.Sized.{hasBlocks}
+use Rattle.table.specs.code.Sized.{hasBlocks}
 use Rattle.table.specs.Lookup.{lookupOf}
 use Rattle.panel.specs.Panel.{walkOf}
 use Rattle.table.specs.Found.{foundOf}

@@ -2,20 +2,23 @@
 ghost use Prim.Native.Nat.{_≤_};
 ghost use mathlib.Core.Path.{_≡_};
 ghost use lib.ListN.{length};
-ghost use Rattle.hash.specs.Contract.{Ready};
+ghost use Rattle.hash.specs.code.Contract.{Ready};
 ghost use Rattle.table.specs.Words.{codeCount};
 ghost use Rattle.table.specs.Lookup.{lookupOf};
-ghost use Rattle.table.specs.Sized.{Blocks};
+ghost use Rattle.table.specs.code.Sized.{Blocks};
 ghost use Rattle.panel.specs.Panel.{walkOf, panelOf};
 ghost use Rattle.table.specs.Found.{foundOf};
 ghost use Rattle.panel.specs.Fired.{firedOf, endedOf};
+
+pub mod numbered;
+
 use table::lookup::Found;
 use table::lookup::in_block;
 use table::lookup::lookup_at;
+use table::numbers::larger;
+use table::numbers::outside;
+use table::numbers::wide;
 use table::words::has_blocks;
-use table::words::larger;
-use table::words::outside;
-use table::words::wide;
 
 pub enum Fired {
     Schedule(u32),

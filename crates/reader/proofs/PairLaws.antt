@@ -1,6 +1,5 @@
 -- The pairs read from a well-formed table: each cell that holds a code has one, and a code stands in its own cell only, so the codes are
 -- different. They are exactly the codes that a lookup finds, with their schedules.
--- Assumes nothing.
 use Prim.Native.Nat.{ℕ, _+_, _*_, _<_, _≤_}
 use native.Mathlib.Decide.{decLt}
 use native.Mathlib.Nat.{pos-of-ne-zero}
@@ -17,9 +16,10 @@ use Rattle.table.specs.Answers.{given, firstOf}
 use Rattle.table.specs.Words.{codeCount, cellCount, total, cellCode, cellSchedule, ownCell}
 use Rattle.table.specs.Lookup.{lookupOf}
 use Rattle.table.proofs.First.{First, first-is}
-use Rattle.faults.specs.Check.{allCodes}
+use Rattle.audit.specs.Check.{allCodes}
 use Rattle.audit.specs.WellFormed.{WellFormed}
-use Rattle.reader.specs.Pairs.{Pair, codesOf, allSchedules, stored, pairsIn}
+use Rattle.table.specs.Pairs.{Pair, codesOf}
+use Rattle.reader.specs.Pairs.{allSchedules, stored, pairsIn}
 use Rattle.audit.proofs.Lookups.{lookup-range, lookup-found, lookup-absent}
 use Rattle.reader.proofs.Rising.{InCell, stored-length, stored-in, in-stored, stored-codes, rising-length, rising-mem, rising-codes, rising-strict}
 

@@ -1,24 +1,14 @@
 -- Reading a table back (document 01, "Read back").
 use Prim.Native.Nat.{ℕ, _+_, _*_}
 use mathlib.Core.Bool.{cond, _||_}
-use mathlib.Core.List.{List, [], _∷_, map}
+use mathlib.Core.List.{List, [], _∷_}
 use mathlib.Core.Path.{_≡_}
 use lib.Dec.{eqb, ltb, leb}
 use lib.ListN.{length, take, drop}
 use Rattle.table.specs.Answers.{Answer, given, refuse, orRefused, filled}
+use Rattle.table.specs.Pairs.{Pair, codesOf, schedulesOf}
 use Rattle.table.specs.Words.{codeCount, cellCount}
-use Rattle.faults.specs.Check.{checkOf, allCodes}
-
--- a code with its schedule
-pub record Pair : Type 0 where
-  pub code : ℕ
-  pub schedule : ℕ
-
-abbrev pub codesOf : List Pair → List ℕ
-codesOf pairs = map (λ (r : Pair). r .code) pairs
-
-abbrev pub schedulesOf : List Pair → List ℕ
-schedulesOf pairs = map (λ (r : Pair). r .schedule) pairs
+use Rattle.audit.specs.Check.{checkOf, allCodes}
 
 -- the schedules of all cells
 abbrev pub allSchedules : List ℕ → List ℕ

@@ -1,3 +1,4 @@
 // Reading an accepted table back.
+pub mod numbered;
 pub mod pairs;
 mod sorting;

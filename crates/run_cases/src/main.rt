@@ -2,9 +2,9 @@
 // number and the value that C sees.
 ghost use Prim.Native.Nat.{_≤_};
 ghost use lib.ListN.{length};
-use shown::GlassAnswer;
+use table::answers::Numbered;
 
-fn print_line(name: &[u8], n: u32, a: GlassAnswer) {
+fn print_line(name: &[u8], n: u32, a: Numbered) {
     let number = a.number;
     let value = a.value;
     io::write_all(1, name);

@@ -16,7 +16,7 @@ use Rattle.hash.proofs.Counting.{load-le, cells-is}
 use Rattle.hash.proofs.Indicators.{indicator, indicator-eq, indicator-ne}
 use Rattle.search.specs.declared.blocks.Count.{Count}
 use Rattle.search.specs.declared.blocks.Count.the-variants.{Fits, TooMany}
-use Rattle.search.specs.Blocks.{countOf, Blocked, Counted}
+use Rattle.search.specs.code.Blocks.{countOf, Blocked, Counted}
 use Rattle.search.proofs.Ends.{drop-before, together-drop}
 
 -- one count more

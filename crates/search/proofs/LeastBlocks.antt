@@ -12,8 +12,8 @@ use Rattle.table.specs.TwoLevel.{blocksMultiplier}
 use Rattle.table.proofs.Chosen.{blocks-least}
 use Rattle.search.specs.declared.blocks.Count.{Count}
 use Rattle.search.specs.declared.blocks.Count.the-variants.{Fits, TooMany}
-use Rattle.search.specs.Searchable.{Searchable}
-use Rattle.search.specs.Blocks.{keeps, countOf, Blocked, LeastBlocks}
+use Rattle.search.specs.code.Searchable.{Searchable}
+use Rattle.search.specs.code.Blocks.{keeps, countOf, Blocked, LeastBlocks}
 use Rattle.search.proofs.Tries.{Trying, trying-start, trying-more, trying-found}
 
 -- the empty list

@@ -3,3 +3,9 @@ pub mod Tries
 pub mod Ends
 pub mod Counts
 pub mod LeastBlocks
+pub mod PlacedLaws
+pub mod Places
+pub mod Taking
+pub mod BlockCells
+pub mod LeastCells
+pub mod Twos

@@ -1,3 +1,2 @@
--- In reading order: what a search asks, and what the search for k promises.
-pub mod Searchable
-pub mod Blocks
+-- What the parts of the code rely on and promise: the definitions of k and q are those of crate table.
+pub mod code

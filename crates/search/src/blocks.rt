@@ -1,9 +1,9 @@
 // The least multiplier k of a list: each k is tried by counting the codes of its blocks.
 ghost use mathlib.Core.Path.{_≡_};
 ghost use lib.ListN.{length};
-ghost use Rattle.hash.specs.Contract.{Ready};
-ghost use Rattle.search.specs.Searchable.{Searchable};
-ghost use Rattle.search.specs.Blocks.{Countable, Counted, Blocked, LeastBlocks};
+ghost use Rattle.hash.specs.code.Contract.{Ready};
+ghost use Rattle.search.specs.code.Searchable.{Searchable};
+ghost use Rattle.search.specs.code.Blocks.{Countable, Counted, Blocked, LeastBlocks};
 
 // The cells of a list under one multiplier, where they keep the bound.
 enum Count {
@@ -32,7 +32,7 @@ fn count_cells(
     requires { ⌜ Ready p (length (now codes)) reciprocal ⌝ }
     ensures { λ r. ⌜ Counted p k (now (codes .entry)) r (now (blocks .exit)) (now (counts .exit)) ⌝ }
 {
-    crate::fill::fill(counts, 0);
+    table::fill::fill(counts, 0);
     let n = codes.len() as u32;
     let most = 3 * n - 2;
     let mut c: u32 = 0;

@@ -1,3 +1,3 @@
-// The least k of a list, and words set to one value.
+// The least k of a list, and the least q of a block.
 pub mod blocks;
-pub mod fill;
+pub mod cells;

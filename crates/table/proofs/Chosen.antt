@@ -1,5 +1,4 @@
 -- The multipliers that a table takes: the least ones that pass exist, for every list of codes, by the theorems of the hash.
--- Assumes nothing.
 use Prim.Native.Nat.{ℕ, _+_, _*_, _<_, _≤_}
 use native.Mathlib.Omega.{arith}
 use mathlib.Core.List.{List, [], _∷_}

@@ -1,5 +1,4 @@
 -- What is read from words that begin with the table of a list, whatever follows it.
--- Assumes nothing.
 use Prim.Native.Nat.{ℕ, _+_, _*_, _<_, _≤_}
 use native.Mathlib.Omega.{arith}
 use mathlib.Core.List.{List, _++_, append-assoc}

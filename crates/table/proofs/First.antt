@@ -1,5 +1,4 @@
 -- `firstOf` gives the first index of which a test holds, and is the only such number. A loop that looks for it keeps `Below test i`.
--- Assumes nothing.
 use Prim.Native.Nat.{ℕ, zero, suc, _+_, _<_, _≤_}
 use mathlib.Core.Bool.{Bool, true, false, cond, true≢false}
 use mathlib.Core.Logic.{_↔_, ⊎-elim}

@@ -1,6 +1,5 @@
 -- What is read from words that begin with the front of a table, and where each code's own cell is by it. For any multiplier k.
 -- Block j has load * load cells, after those of the blocks before it.
--- Assumes nothing.
 use Prim.Native.Nat.{ℕ, zero, suc, _+_, _*_, _-_, _<_, _≤_}
 use native.Mathlib.Decide.{ℕ-discrete}
 use native.Mathlib.Nat.{add-assoc, mul-pos}

@@ -1,6 +1,5 @@
 -- What a cell holds: the value listed with the first code whose own cell it is. Where own cells differ, that is the only such code,
 -- so the cells are what remains of c zeros when each value in turn is stored at its code's own cell.
--- Assumes nothing.
 use Prim.Native.Nat.{ℕ, zero, suc, _<_, _≤_}
 use native.Mathlib.Decide.{ℕ-discrete, decLt}
 use native.Mathlib.Omega.{arith}

@@ -1,5 +1,4 @@
 -- What the proofs of this crate, and of those above it, have in common: the facts that decide a definition's tests, and what sizes that pass tell.
--- Assumes nothing.
 use Prim.Native.Nat.{ℕ, _-_, _≤_}
 use mathlib.Core.Bool.{Bool, true, false, cond, _||_, true≢false}
 use mathlib.Core.List.{List}
@@ -9,7 +8,7 @@ use borrow.Author.Tests.{le-ltb, lt-ltb, le-leb, lt-leb, eq-eqb, ne-eqb, ltb-fal
 use Rattle.table.specs.Answers.{outside}
 use Rattle.table.specs.Words.{codeCount, multiplier}
 use Rattle.table.specs.Lookup.{tooManyCodes, tooManyCells, badMultiplier, tooShort, badSizes}
-use Rattle.table.specs.Sized.{Sized, Blocks, hasBlocks}
+use Rattle.table.specs.code.Sized.{Sized, Blocks, hasBlocks}
 
 -- each test of a definition, from the fact that decides it
 pub ruleset tests = (le-ltb, lt-ltb, le-leb, lt-leb, eq-eqb, ne-eqb)

@@ -14,3 +14,6 @@ pub mod Chosen
 pub mod Own
 pub mod Contents
 pub mod Order
+-- Codes among others, and the cell that a lookup in one word reads.
+pub mod Among
+pub mod Probing

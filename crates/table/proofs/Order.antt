@@ -1,6 +1,5 @@
 -- The table of a list does not depend on the order of its pairs: loads and pairs put together are sums over the codes, so k, c, the
 -- starts and the q's stay, and a cell holds the code whose own it is.
--- Assumes nothing.
 use Prim.Native.Nat.{ℕ, _+_, _*_, _<_}
 use native.Mathlib.Omega.{arith}
 use mathlib.Core.List.{List, [], _∷_, _++_, List·Memᴰ, List·Permᴰ, Memᴰ·cast}

@@ -1,6 +1,5 @@
 -- Own cells of listed codes: each is one of the c cells, and different codes have different ones. Codes of different blocks lie
 -- in different runs of cells; those of one block are put apart by its q.
--- Assumes nothing.
 use Prim.Native.Nat.{ℕ, suc, _+_, _<_}
 use native.Mathlib.Decide.{ℕ-discrete, decLt}
 use native.Mathlib.Omega.{arith}

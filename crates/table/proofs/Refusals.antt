@@ -1,5 +1,4 @@
 -- Refusals one below the other, as a list: the answer is given exactly where every test fails, and is otherwise a refusal.
--- Assumes nothing.
 use Prim.Native.Nat.{ℕ}
 use mathlib.Core.Bool.{Bool, true, false}
 use mathlib.Core.List.{List, [], _∷_}

@@ -1,5 +1,4 @@
 -- Whether a test holds of some number below n. A loop that only tells that keeps `some i test`, and needs no branch.
--- Assumes nothing.
 use Prim.Native.Nat.{ℕ, suc, _+_, _≤_}
 use mathlib.Core.Bool.{Bool, false, _||_}
 use mathlib.Core.Logic.{⊎-elim}

@@ -1,5 +1,4 @@
 -- The answers of a lookup past the tests that it passes, over plain words: from the sizes to the code's block, and from the block to its cell.
--- Assumes nothing.
 use Prim.Native.Nat.{ℕ, _-_, _≤_}
 use mathlib.Core.Bool.{true, false, true≢false}
 use mathlib.Core.Logic.{_⊎_, inl, inr}
@@ -12,7 +11,7 @@ use Rattle.hash.proofs.Indicators.{true-or-false}
 use Rattle.table.specs.Answers.{absent, refused, refuse, outside}
 use Rattle.table.specs.Words.{codeCount, cellCount, blockStart, blockEnd, blockMultiplier, blockOf, cellIn}
 use Rattle.table.specs.Lookup.{badSizes, inCell, inBlock, lookupOf}
-use Rattle.table.specs.Sized.{hasBlocks}
+use Rattle.table.specs.code.Sized.{hasBlocks}
 
 module _ (p limit : ℕ) (words : List ℕ) (code : ℕ) (range : outside 1 (p - 1) code ≡ false) (three : 3 ≤ length words)
     (sizes : badSizes p limit words ≡ false) where

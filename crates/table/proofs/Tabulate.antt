@@ -1,5 +1,4 @@
 -- Lists by their function: `tabulate f n` has n elements, and element i is f i. All else follows by that.
--- Assumes nothing.
 use Prim.Native.Nat.{ℕ, zero, suc, _+_, _<_, _≤_}
 use native.Mathlib.Decide.{ℕ-discrete}
 use native.Mathlib.Nat.{add-zero, add-suc}

@@ -41,6 +41,10 @@ orRefused absent rest = absent
 orRefused (unknown i) rest = unknown i
 orRefused (refused number value) rest = refused number value
 
+-- the answer of a call that fills `needed` of the lent words: refused with the words needed where fewer are lent, otherwise their number
+abbrev pub intoRoom : ℕ → ℕ → ℕ → Answer
+intoRoom number needed lent = refuse (ltb lent needed) number needed (given (needed ∷ []))
+
 -- x is not from low to high
 abbrev pub outside : ℕ → ℕ → ℕ → Bool
 outside low high x = ltb x low || ltb high x

@@ -3,8 +3,9 @@
 ghost use Prim.Native.Nat.{_≤_};
 ghost use mathlib.Core.Path.{_≡_};
 ghost use Rattle.table.specs.Lookup.{inCell, inBlock, lookupOf};
-ghost use Rattle.table.specs.Sized.{Block, Cell};
+ghost use Rattle.table.specs.code.Sized.{Block, Cell};
 ghost use Rattle.table.specs.Found.{foundOf};
+use crate::numbers::outside;
 use crate::words::bad_sizes;
 use crate::words::block_end;
 use crate::words::block_multiplier;
@@ -13,7 +14,6 @@ use crate::words::block_start;
 use crate::words::cell_code;
 use crate::words::cell_in;
 use crate::words::cell_schedule;
-use crate::words::outside;
 
 pub enum Found {
     Schedule(u32),

@@ -1,35 +1,13 @@
 // The words of a table, each test and each place of document 01 by itself, for lookup here and for the crates above. The sums are taken in
 // usize, which holds them for any words.
-ghost use Prim.Native.Nat.{max, _<_, _≤_};
+ghost use Prim.Native.Nat.{_<_, _≤_};
 ghost use mathlib.Core.Path.{_≡_};
 ghost use lib.ListN.{length};
-ghost use Rattle.table.specs.Answers.{outside};
 ghost use Rattle.table.specs.Words.{codeCount, total, blockStart, blockEnd, blockMultiplier, cellCode, cellSchedule, blockOf, cellIn};
 ghost use Rattle.table.specs.Lookup.{tooManyCodes, tooManyCells, badMultiplier, tooShort, badSizes};
-ghost use Rattle.table.specs.Sized.{Block, Cell, Within, hasBlocks};
-
-// A word as an index or a part of a sum.
-pub fn wide(x: u32) -> usize
-    ensures { λ r. ⌜ Within x 4294967296 r ⌝ }
-{
-    x as usize
-}
-
-pub fn larger(a: u32, b: u32) -> u32
-    ensures { λ r. ⌜ r ≡ max a b ⌝ }
-{
-    if a < b {
-        return b;
-    }
-    a
-}
-
-// x is not from low to high.
-pub fn outside(low: u32, high: u32, x: u32) -> bool
-    ensures { λ r. ⌜ r ≡ outside low high x ⌝ }
-{
-    x < low || high < x
-}
+ghost use Rattle.table.specs.code.Sized.{Block, Cell, Within, hasBlocks};
+use crate::numbers::outside;
+use crate::numbers::wide;
 
 // The words that the sizes call for.
 pub fn total(words: &[u32]) -> usize

@@ -6,8 +6,10 @@ use Rattle.table.specs.Words.{blockOf, cellIn, ownCell}
 use Rattle.table.specs.TwoLevel.{tabulate, blocksMultiplier, cellsMultiplier, startOf, frontWith, frontOf, heldIn, tableWith, cellsOf, wordsNeeded, tableOf}
 use Rattle.table.specs.Lookup.{badSizes, inCell, inBlock, lookupOf}
 use Rattle.panel.specs.Panel.{walkOf, panelOf}
-use Rattle.refusals.specs.Repeats.{among, repeated}
-use Rattle.builder.specs.Build.{badCode, badSchedule, listOr, buildOf}
+use Rattle.table.specs.Pairs.{among}
+use Rattle.lists.specs.List.{repeated}
+use Rattle.lists.specs.List.{badCode, badSchedule, listOr}
+use Rattle.builder.specs.Build.{buildOf}
 use Rattle.vectors.specs.Firings.{Firings}
 
 pub firings : Firings

@@ -1,6 +1,5 @@
 -- Grouped by counting, group j is block j: its codes, and so its start, its multiplier and its cells, and the schedules in them. With no block pending the
 -- words are the table's.
--- Assumes nothing.
 use Prim.Native.Nat.{ℕ, zero, suc, _+_, _*_, _-_, _<_, _≤_}
 use mathlib.Core.Bool.{Bool, false}
 use mathlib.Core.List.{List, [], _∷_, _++_}
@@ -16,15 +15,15 @@ use Rattle.hash.proofs.Members.{members-codes}
 use Rattle.table.specs.TwoLevel.{tabulate, cellsMultiplier, startOf, frontWith, heldIn, tableWith}
 use Rattle.table.proofs.Tabulate.{tabulate-ext}
 use Rattle.table.proofs.Front.{blockQ, start-last, front-parts, front-fronted}
-use Rattle.search.specs.Searchable.{Searchable}
-use Rattle.cells.specs.Placed.{heldBy, valuesOf}
-use Rattle.cells.specs.Cells.{filledBy}
-use Rattle.cells.proofs.PlacedLaws.{valuesOf-codes}
-use Rattle.cells.proofs.BlockCells.{block-cells}
-use Rattle.groups.specs.Grouping.{before, Loads, chosen, ListedApart, Grouped}
-use Rattle.writer.specs.Writing.{sizeAt, groupAt, startAt, multiplierAt, runs, cellsBut, tableBut, Offsets, Groups, Writable}
-use Rattle.groups.proofs.Groups.{before-next, before-le}
-use Rattle.groups.proofs.Choosing.{chosen-ext}
+use Rattle.search.specs.code.Searchable.{Searchable}
+use Rattle.search.specs.code.Placed.{heldBy, valuesOf}
+use Rattle.search.specs.code.Cells.{filledBy}
+use Rattle.search.proofs.PlacedLaws.{valuesOf-codes}
+use Rattle.search.proofs.BlockCells.{block-cells}
+use Rattle.writer.specs.code.Grouping.{before, Loads, chosen, ListedApart, Grouped}
+use Rattle.writer.specs.code.Writing.{sizeAt, groupAt, startAt, multiplierAt, runs, cellsBut, tableBut, Offsets, Groups, Writable}
+use Rattle.writer.proofs.Groups.{before-next, before-le}
+use Rattle.writer.proofs.Choosing.{chosen-ext}
 
 -- ---- group j is block j
 

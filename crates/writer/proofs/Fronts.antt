@@ -1,5 +1,4 @@
 -- The first words of a table: n, c and k, the starts, and the multiplier 1 for every block. The table is then complete but for its blocks.
--- Assumes nothing.
 use Prim.Native.Nat.{ℕ, zero, suc, _+_, _*_, _-_, _<_, _≤_}
 use mathlib.Core.Bool.{true}
 use mathlib.Core.List.{List, [], _∷_, _++_, append-assoc}
@@ -10,8 +9,8 @@ use lib.ListN.{length, take, drop, set, replicate, length-replicate, replicate-a
 use Rattle.hash.specs.Hash.{sum}
 use Rattle.table.specs.TwoLevel.{tabulate}
 use Rattle.table.proofs.Tabulate.{tabulate-length}
-use Rattle.writer.specs.Writing.{sizeAt, startAt, runs, tableBut, headed, Offsets}
-use Rattle.groups.proofs.Parts.{part-is, part-back, zeros-split}
+use Rattle.writer.specs.code.Writing.{sizeAt, startAt, runs, tableBut, headed, Offsets}
+use Rattle.writer.proofs.Parts.{part-is, part-back, zeros-split}
 
 pub header-set : (words : List ℕ) (m n c k : ℕ) → words ≡ replicate m 0 → 3 ≤ m → set (set (set words 0 n) 1 c) 2 k ≡ headed n c k m
 header-set words m n c k zeros l =

@@ -6,3 +6,7 @@ mod Vacancies
 mod Pending
 mod Fronts
 mod Assembly
+pub mod Choosing
+pub mod Groups
+pub mod Parts
+pub mod Spreading

@@ -1,6 +1,5 @@
 -- The blocks of one kind, told by how many codes they have, listed and written one after the other: what is left of the list is pending, and all
 -- blocks that have more codes.
--- Assumes nothing.
 use Prim.Native.Nat.{ℕ, suc, _+_, _*_, _<_, _≤_}
 use mathlib.Core.Bool.{Bool, true, false, _||_}
 use mathlib.Core.List.{List, [], _∷_}
@@ -12,10 +11,10 @@ use borrow.Author.Tests.{eq-eqb, ne-eqb, lt-ltb, le-ltb, eqb-true}
 use lib.Dec.{eqb, ltb}
 use lib.ListN.{length, getD, drop, drop-of-length-le}
 use lib.Seq.{drop-cons}
-use Rattle.refusals.specs.Repeats.{among}
-use Rattle.groups.specs.Grouping.{chosen}
-use Rattle.writer.specs.Writing.{sizeAt, groupAt, startAt, tableBut, Groups, Vacant, blockIn}
-use Rattle.groups.proofs.Choosing.{chosen-below, chosen-among, chosen-once}
+use Rattle.table.specs.Pairs.{among}
+use Rattle.writer.specs.code.Grouping.{chosen}
+use Rattle.writer.specs.code.Writing.{sizeAt, groupAt, startAt, tableBut, Groups, Vacant, blockIn}
+use Rattle.writer.proofs.Choosing.{chosen-below, chosen-among, chosen-once}
 use Rattle.writer.proofs.Pending.{start-is, one-stands, pending-vacant, pending-written, pending-same}
 
 -- the sizes of the blocks that are listed, of those that stay pending, and of both

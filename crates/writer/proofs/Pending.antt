@@ -1,6 +1,5 @@
 -- A table whose pending blocks are written one at a time: where a block's cells lie, that they are 0 while it is pending, and what the words are once
 -- it is written.
--- Assumes nothing.
 use Prim.Native.Nat.{ℕ, _+_, _*_, _-_, _<_, _≤_}
 use mathlib.Core.Bool.{Bool, true, false, cond}
 use mathlib.Core.List.{List, [], _∷_, _++_, append-assoc}
@@ -14,12 +13,12 @@ use lib.Seq.{take-at, drop-at, length-take-le, getD-append-add}
 use Rattle.hash.proofs.Indicators.{true-or-false}
 use Rattle.table.specs.TwoLevel.{tabulate, cellsMultiplier}
 use Rattle.table.proofs.Tabulate.{tabulate-length, tabulate-ext, tabulate-set, tabulate-head, tabulate-past}
-use Rattle.cells.specs.Cells.{square, filledBy}
-use Rattle.cells.specs.Placed.{heldBy}
-use Rattle.cells.proofs.LeastCells.{cells-none}
-use Rattle.writer.specs.Writing.{sizeAt, groupAt, startAt, multiplierAt, runs, multiplierBut, cellsBut, tableBut, Groups, above, Vacant, blockIn}
-use Rattle.groups.specs.Spread.{spreadIn}
-use Rattle.groups.proofs.Parts.{part-is, part-back, set-in}
+use Rattle.search.specs.code.Cells.{square, filledBy}
+use Rattle.search.specs.code.Placed.{heldBy}
+use Rattle.search.proofs.LeastCells.{cells-none}
+use Rattle.writer.specs.code.Writing.{sizeAt, groupAt, startAt, multiplierAt, runs, multiplierBut, cellsBut, tableBut, Groups, above, Vacant, blockIn}
+use Rattle.writer.specs.code.Spread.{spreadIn}
+use Rattle.writer.proofs.Parts.{part-is, part-back, set-in}
 use Rattle.writer.proofs.Runs.{runs-ext, after, runs-split, after-ext, runs-length}
 
 -- ---- tables whose blocks are the same

@@ -1,5 +1,4 @@
 -- Lists written one after the other.
--- Assumes nothing.
 use Prim.Native.Nat.{ℕ, zero, suc, _+_, _-_, _<_}
 use mathlib.Core.List.{List, _++_, append-assoc, append-nil}
 use mathlib.Core.Path.{_≡_, refl, sym, ap, ap₂, _∙_}
@@ -7,7 +6,7 @@ use native.Mathlib.Nat.{add-zero, add-suc}
 use native.Mathlib.Omega.{arith}
 use lib.ListN.{length, length-append}
 use Rattle.hash.specs.Hash.{sum}
-use Rattle.writer.specs.Writing.{runs}
+use Rattle.writer.specs.code.Writing.{runs}
 
 pub runs-ext : (f g : ℕ → List ℕ) (n : ℕ) → ((i : ℕ) → i < n → f i ≡ g i) → runs f n ≡ runs g n
 unfolding runs

@@ -1,13 +1,12 @@
 -- Where a block's cells start, one block after the other.
--- Assumes nothing.
 use Prim.Native.Nat.{ℕ, suc, _+_, _*_, _<_}
 use mathlib.Core.List.{List}
 use mathlib.Core.Path.{_≡_, refl, ap}
 use native.Mathlib.Numerals.{add-one}
 use native.Mathlib.Omega.{arith}
 use Rattle.hash.specs.Hash.{sum}
-use Rattle.writer.specs.Writing.{sizeAt, startAt, Offsets}
-use Rattle.groups.proofs.Groups.{sum-grows}
+use Rattle.writer.specs.code.Writing.{sizeAt, startAt, Offsets}
+use Rattle.writer.proofs.Groups.{sum-grows}
 
 start-next : (at : List ℕ) (j : ℕ) → startAt at (suc j) ≡ startAt at j + sizeAt at j * sizeAt at j
 unfolding startAt sum

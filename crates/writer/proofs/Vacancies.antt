@@ -1,5 +1,4 @@
 -- One block whose words are vacant: the parts that are lent for it, and what the words are once they come back. A block of one code is two stores.
--- Assumes nothing.
 use Prim.Native.Nat.{ℕ, suc, _+_, _-_, _<_, _≤_}
 use mathlib.Core.List.{List, [], _∷_, _++_}
 use mathlib.Core.Path.{_≡_, refl, sym, ap, ap₂, _∙_}
@@ -9,11 +8,11 @@ use native.Mathlib.Omega.{arith}
 use borrow.Rule.Slice.PartMut.{put-same, same-len-mid}
 use lib.ListN.{length, getD, take, drop, set, length-set, take-append-drop, drop-of-length-le}
 use lib.Seq.{drop-cons, length-take-le, set-split, set-getD, getD-set-other, take-take}
-use Rattle.cells.specs.Cells.{square, Unplaced, Separated}
-use Rattle.cells.proofs.LeastCells.{cells-one}
-use Rattle.writer.specs.Writing.{sizeAt, groupAt, Vacant, blockIn}
-use Rattle.groups.specs.Spread.{spreadIn, Cleared, Separating}
-use Rattle.groups.proofs.Parts.{set-in}
+use Rattle.search.specs.code.Cells.{square, Unplaced, Separated}
+use Rattle.search.proofs.LeastCells.{cells-one}
+use Rattle.writer.specs.code.Writing.{sizeAt, groupAt, Vacant, blockIn}
+use Rattle.writer.specs.code.Spread.{spreadIn, Cleared, Separating}
+use Rattle.writer.proofs.Parts.{set-in}
 
 module _ {p : ℕ} {block values : List ℕ} {c j start : ℕ} {words : List ℕ} (v : Vacant p block values c j start words) where
   -- its first cells

@@ -1,2 +1,2 @@
--- The words written from the groups of a list.
-pub mod Writing
+-- What the parts of the code rely on and promise: the definition of a table is that of crate table.
+pub mod code

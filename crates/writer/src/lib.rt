@@ -1,2 +1,4 @@
-// The words of a table, written from its groups.
+// The words of a table: the pairs of a list grouped by the blocks of their codes, and written block by block.
+mod grouping;
+mod spread;
 pub mod write;

@@ -4,24 +4,24 @@ ghost use mathlib.Core.Bool.{false};
 ghost use mathlib.Core.Path.{_≡_};
 ghost use lib.Dec.{eqb, ltb};
 ghost use lib.ListN.{length, getD};
-ghost use Rattle.search.specs.Searchable.{mostCodes};
+ghost use Rattle.table.specs.Limits.{room};
 ghost use Rattle.table.specs.TwoLevel.{tabulate, frontWith, tableWith};
-ghost use Rattle.groups.specs.Grouping.{Blocks, Loads, ListedApart, chosen};
-ghost use Rattle.writer.specs.Writing.{sizeAt, groupAt, startAt, headed, Offsets, Groups, above, tableBut, Vacant, blockIn, Writable, Room};
-use cells::more_multiplier;
-use cells::two_multiplier;
-use groups::grouping::Apart;
-use groups::grouping::group;
-use groups::spread::spread;
-use groups::spread::spread_two;
-use table::words::wide;
+ghost use Rattle.writer.specs.code.Grouping.{Blocks, Loads, ListedApart, chosen};
+ghost use Rattle.writer.specs.code.Writing.{sizeAt, groupAt, startAt, headed, Offsets, Groups, above, tableBut, Vacant, blockIn, Writable, Room};
+use crate::grouping::Apart;
+use crate::grouping::group;
+use crate::spread::spread;
+use crate::spread::spread_two;
+use search::cells::more_multiplier;
+use search::cells::two_multiplier;
+use table::numbers::wide;
 
 // Writes n, c and k, and 0 in all words after them.
 fn write_header(n: u32, c: u32, k: u32, words: &mut [u32])
     requires { ⌜ 3 ≤ length (now words) ⌝ }
     ensures { λ _. ⌜ now (words .exit) ≡ headed n c k (length (now (words .entry))) ⌝ }
 {
-    search::fill::fill(words, 0);
+    table::fill::fill(words, 0);
     words[0] = n;
     words[1] = c;
     words[2] = k;
@@ -53,7 +53,7 @@ fn write_front(
     paired: &[u32],
     words: &mut [u32],
 )
-    requires { ⌜ Groups p n c (now at) (now grouped) (now paired) × (n ≤ mostCodes) ⌝ }
+    requires { ⌜ Groups p n c (now at) (now grouped) (now paired) × (n ≤ room) ⌝ }
     requires { ⌜ length (now words) ≡ 3 + 2 * n + 2 * c ⌝ }
     ensures { λ _.
         ⌜ now (words .exit)
@@ -64,7 +64,7 @@ fn write_front(
     let cells = multipliers + n;
     write_starts(at, &mut words[3..multipliers]);
     // the multiplier of a block without a code, or with one
-    search::fill::fill(&mut words[multipliers..cells], 1);
+    table::fill::fill(&mut words[multipliers..cells], 1);
 }
 
 // Writes the pair of block j, which has one code, into its cell. Its multiplier is 1.
@@ -78,7 +78,7 @@ fn write_one(
     j: usize,
     words: &mut [u32],
 )
-    requires { ⌜ Groups p n c (now at) (now grouped) (now paired) × ((j < n) × (n ≤ mostCodes)) ⌝ }
+    requires { ⌜ Groups p n c (now at) (now grouped) (now paired) × ((j < n) × (n ≤ room)) ⌝ }
     requires { ⌜ sizeAt (now at) j ≡ 1 ⌝ }
     requires { ⌜ (getD (now words) (3 + j) 0 ≡ startAt (now at) j) × (getD (now words) (3 + n + j) 0 ≡ 1) ⌝ }
     requires { ⌜ Vacant p (groupAt (now at) (now grouped) j) (groupAt (now at) (now paired) j) c (3 + n + j) (3 + 2 * n + startAt (now at) j) (now words) ⌝ }
@@ -104,7 +104,7 @@ fn write_two(
     j: usize,
     words: &mut [u32],
 )
-    requires { ⌜ Groups p n c (now at) (now grouped) (now paired) × ((j < n) × (n ≤ mostCodes)) ⌝ }
+    requires { ⌜ Groups p n c (now at) (now grouped) (now paired) × ((j < n) × (n ≤ room)) ⌝ }
     requires { ⌜ sizeAt (now at) j ≡ 2 ⌝ }
     requires { ⌜ getD (now words) (3 + j) 0 ≡ startAt (now at) j ⌝ }
     requires { ⌜ Vacant p (groupAt (now at) (now grouped) j) (groupAt (now at) (now paired) j) c (3 + n + j) (3 + 2 * n + startAt (now at) j) (now words) ⌝ }
@@ -175,7 +175,7 @@ fn write_more(
     j: usize,
     words: &mut [u32],
 )
-    requires { ⌜ Groups p n c (now at) (now grouped) (now paired) × ((j < n) × (n ≤ mostCodes)) ⌝ }
+    requires { ⌜ Groups p n c (now at) (now grouped) (now paired) × ((j < n) × (n ≤ room)) ⌝ }
     requires { ⌜ 2 < sizeAt (now at) j ⌝ }
     requires { ⌜ getD (now words) (3 + j) 0 ≡ startAt (now at) j ⌝ }
     requires { ⌜ Vacant p (groupAt (now at) (now grouped) j) (groupAt (now at) (now paired) j) c (3 + n + j) (3 + 2 * n + startAt (now at) j) (now words) ⌝ }
@@ -210,7 +210,7 @@ fn write_ones(
     listed: &[u16],
     words: &mut [u32],
 )
-    requires { ⌜ Groups p n c (now at) (now grouped) (now paired) × (n ≤ mostCodes) ⌝ }
+    requires { ⌜ Groups p n c (now at) (now grouped) (now paired) × (n ≤ room) ⌝ }
     requires { ⌜ now listed ≡ chosen (λ j. eqb (sizeAt (now at) j) 1) n ⌝ }
     requires { ⌜ now words ≡ tableBut p n c k (now at) (now grouped) (now paired) (above (now at) 0) ⌝ }
     ensures { λ _.
@@ -236,7 +236,7 @@ fn write_twos(
     listed: &[u16],
     words: &mut [u32],
 )
-    requires { ⌜ Groups p n c (now at) (now grouped) (now paired) × (n ≤ mostCodes) ⌝ }
+    requires { ⌜ Groups p n c (now at) (now grouped) (now paired) × (n ≤ room) ⌝ }
     requires { ⌜ now listed ≡ chosen (λ j. eqb (sizeAt (now at) j) 2) n ⌝ }
     requires { ⌜ now words ≡ tableBut p n c k (now at) (now grouped) (now paired) (above (now at) 1) ⌝ }
     ensures { λ _.
@@ -262,7 +262,7 @@ fn write_mores(
     listed: &[u16],
     words: &mut [u32],
 )
-    requires { ⌜ Groups p n c (now at) (now grouped) (now paired) × (n ≤ mostCodes) ⌝ }
+    requires { ⌜ Groups p n c (now at) (now grouped) (now paired) × (n ≤ room) ⌝ }
     requires { ⌜ now listed ≡ chosen (λ j. ltb 2 (sizeAt (now at) j)) n ⌝ }
     requires { ⌜ now words ≡ tableBut p n c k (now at) (now grouped) (now paired) (above (now at) 2) ⌝ }
     ensures { λ _.
@@ -288,7 +288,7 @@ fn write_blocks(
     lists: &[u16],
     words: &mut [u32],
 )
-    requires { ⌜ Groups p n c (now at) (now grouped) (now paired) × (n ≤ mostCodes) ⌝ }
+    requires { ⌜ Groups p n c (now at) (now grouped) (now paired) × (n ≤ room) ⌝ }
     requires { ⌜ ListedApart n (sizeAt (now at)) (apart .ones) (apart .twos) (apart .mores) (now lists) × (3 * n ≤ length (now lists)) ⌝ }
     requires { ⌜ length (now words) ≡ 3 + 2 * n + 2 * c ⌝ }
     ensures { λ _.

@@ -1,4 +1,4 @@
--- `compare::build_and_print` is safe: the part that it lends is as long as it says. Assumes nothing.
+-- `compare::build_and_print` is safe: the part that it lends is as long as it says.
 use borrow.Author.Needs.{needs}
 use mathlib.Core.Path.{sym}
 use lib.Seq.{length-take-le}

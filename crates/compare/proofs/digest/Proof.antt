@@ -1,5 +1,4 @@
 -- `compare::digest` is safe and ends. The invariant: the digest is below its modulus, so the next product fits.
--- Assumes nothing.
 use Prim.Native.Nat.{_≤_, _<_, _-_}
 use mathlib.Core.Path.{_≡_}
 use borrow.Author.Needs.{needs}

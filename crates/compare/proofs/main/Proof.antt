@@ -1,4 +1,4 @@
--- `compare::main` is safe and ends. The invariant is nothing; the measure is the number of lists that may still be read. Assumes nothing.
+-- `compare::main` is safe and ends. The invariant is nothing; the measure is the number of lists that may still be read.
 use borrow.Author.Needs.{needs}
 use Rattle.compare.proofs.main.Statement.{statement}
 use Rattle.compare.proofs.main.Tie as tie

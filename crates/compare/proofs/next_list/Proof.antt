@@ -1,4 +1,4 @@
--- `compare::next_list` is safe: the parts that it lends are as long as they say. Assumes nothing.
+-- `compare::next_list` is safe: the parts that it lends are as long as they say.
 use borrow.Author.Needs.{needs}
 use mathlib.Core.Path.{sym}
 use native.Mathlib.Omega.{arith}

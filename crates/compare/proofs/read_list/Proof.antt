@@ -1,5 +1,4 @@
 -- `compare::read_list` is safe and ends. The invariant: the list keeps its length.
--- Assumes nothing.
 use Prim.Native.Nat.{_≤_, _<_, _-_}
 use mathlib.Core.Path.{_≡_}
 use borrow.Author.Needs.{needs}

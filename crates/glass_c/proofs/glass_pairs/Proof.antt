@@ -1,4 +1,4 @@
--- `glass_c::glass_pairs` meets its contract: what C sees of reading back is what it sees of the defined answer. Assumes nothing.
+-- `glass_c::glass_pairs` meets its contract: what C sees of reading back is what it sees of the defined answer.
 use borrow.Author.Needs.{needs}
 use Rattle.glass_c.proofs.glass_pairs.Statement.{statement}
 use Rattle.glass_c.proofs.glass_pairs.Tie as tie
@@ -7,7 +7,7 @@ returns : tie.Need-returns
 returns c =
     let read = c .before .before .before .before .before .pairs .ensures in
     record {
-      shows = rw (read .answers) at (c .shown .ensures);
+      shows = rw (read .answers) at (c .numbered .ensures);
       codes-at-exit = read .codes-at-exit;
       schedules-at-exit = read .schedules-at-exit;
     }

@@ -1,5 +1,4 @@
 -- `lister::run` meets its contract, which says nothing: the part of the text that is written is within it, since the listing fits.
--- Assumes nothing.
 use mathlib.Core.Path.{sym}
 use borrow.Author.Needs.{needs}
 use lib.Seq.{length-take-le}

@@ -1,5 +1,4 @@
 -- `panel::ended` meets its contract, case by case: each arm is told which case f is.
--- Assumes nothing.
 use borrow.Author.Needs.{needs}
 use Rattle.panel.proofs.ended.Statement.{statement}
 use Rattle.panel.proofs.ended.Tie as tie

@@ -1,5 +1,4 @@
 -- `panel::lookup_in` meets its contract: past the sizes, a lookup is its block's answer.
--- Assumes nothing.
 use mathlib.Core.Path.{_∙_, sym}
 use native.Mathlib.Omega.{arith}
 use borrow.Author.Needs.{needs}

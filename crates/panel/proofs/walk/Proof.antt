@@ -1,5 +1,5 @@
 -- `panel::walk` meets its contract. The loop's invariant: the walk from index i on, with the largest schedule so far, is the whole walk.
--- The measure is what is left of the codes. Assumes nothing.
+-- The measure is what is left of the codes.
 use Prim.Native.Nat.{_≤_, _-_}
 use mathlib.Core.Path.{_≡_, _∙_, sym, ap}
 use native.Mathlib.Omega.{arith}

@@ -1,5 +1,4 @@
 -- `run_cases::count_up` meets its contract: it is safe and ends. The invariant: the list keeps its length. The measure: what is left of it.
--- Assumes nothing.
 use Prim.Native.Nat.{_≤_, _-_}
 use mathlib.Core.Path.{_≡_}
 use borrow.Author.Needs.{needs}

@@ -1,4 +1,4 @@
--- `run_cases::numbered` meets its contract: the parts that it lends are as long as they say. Assumes nothing.
+-- `run_cases::numbered` meets its contract: the parts that it lends are as long as they say.
 use borrow.Author.Needs.{needs}
 use mathlib.Core.Path.{sym}
 use lib.Seq.{length-take-le}

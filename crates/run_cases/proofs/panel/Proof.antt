@@ -1,4 +1,4 @@
--- `run_cases::panel` meets its contract: the part that it lends is as long as it says. Assumes nothing.
+-- `run_cases::panel` meets its contract: the part that it lends is as long as it says.
 use borrow.Author.Needs.{needs}
 use mathlib.Core.Path.{sym}
 use lib.Seq.{length-take-le}

@@ -1,4 +1,4 @@
--- `audit::blocks::first_next` meets its contract. Assumes nothing.
+-- `audit::blocks::first_next` meets its contract.
 use native.Mathlib.Numerals.{add-one}
 use borrow.Author.Needs.{needs}
 use Rattle.table.proofs.Laws.{tests}

@@ -1,8 +1,7 @@
 -- `audit::blocks::strange` meets its contract: its tests are the definition's, in the same order.
--- Assumes nothing.
 use borrow.Author.Needs.{needs}
 use Rattle.table.proofs.Laws.{tests}
-use Rattle.audit.specs.Blocks.{strange}
+use Rattle.audit.specs.code.Blocks.{strange}
 use Rattle.audit.proofs.blocks.strange.Statement.{statement}
 use Rattle.audit.proofs.blocks.strange.Tie as tie
 

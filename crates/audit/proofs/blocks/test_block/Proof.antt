@@ -1,6 +1,5 @@
 -- `audit::blocks::test_block` meets its contract. The loop's invariant: the codes before t are counted and placed. The measure is what is left
 -- of the part.
--- Assumes nothing.
 use Prim.Native.Nat.{ℕ, _+_, _-_, _≤_}
 use mathlib.Core.List.{List}
 use mathlib.Core.Path.{_≡_, refl, sym, ap, _∙_}
@@ -10,9 +9,9 @@ use borrow.Author.Needs.{needs}
 use lib.ListN.{length, drop}
 use Rattle.table.specs.Answers.{firstOf}
 use Rattle.table.proofs.First.{first-next}
-use Rattle.faults.specs.Check.{codesIn}
-use Rattle.audit.specs.Blocks.{strange, strangeAt}
-use Rattle.faults.proofs.Counting.{codes-from, codes-le, codes-end}
+use Rattle.audit.specs.Check.{codesIn}
+use Rattle.audit.specs.code.Blocks.{strange, strangeAt}
+use Rattle.audit.proofs.Counting.{codes-from, codes-le, codes-end}
 use Rattle.audit.proofs.blocks.test_block.Statement.{statement}
 use Rattle.audit.proofs.blocks.test_block.Tie as tie
 

@@ -1,5 +1,4 @@
 -- `audit::check::check_at` meets its contract: the tests 11 to 15 are the definition's, in the same order, and the rest is that from 16 on.
--- Assumes nothing.
 use mathlib.Core.Bool.{false}
 use mathlib.Core.Path.{_≡_, sym, _∙_}
 use native.Mathlib.Omega.{arith}
@@ -10,9 +9,9 @@ use lib.ListN.{length}
 use Rattle.table.specs.Words.{codeCount}
 use Rattle.table.specs.Lookup.{tooManyCodes, tooManyCells, badMultiplier}
 use Rattle.table.proofs.Laws.{sized-by}
-use Rattle.faults.specs.Check.{checkOf}
-use Rattle.audit.specs.Checked.{fromStarts}
-use Rattle.faults.proofs.Bounds.{total-le-by}
+use Rattle.audit.specs.Check.{checkOf}
+use Rattle.audit.specs.code.From.{fromStarts}
+use Rattle.audit.proofs.Bounds.{total-le-by}
 use Rattle.audit.proofs.check.check_at.Statement.{statement}
 use Rattle.audit.proofs.check.check_at.Tie as tie
 

@@ -1,5 +1,4 @@
 -- `audit::check::check_blocks` meets its contract: the tests 16 to 18 are the definition's, in the same order. Starts that pass 16 rise.
--- Assumes nothing.
 use Prim.Native.Nat.{ℕ, _≤_}
 use mathlib.Core.Bool.{Bool}
 use native.Mathlib.Omega.{arith}
@@ -8,9 +7,9 @@ use borrow.Author.Needs.{needs}
 use Rattle.table.specs.Words.{codeCount, cellCount}
 use Rattle.table.specs.Answers.{firstOf}
 use Rattle.table.proofs.First.{Below, none-refused}
-use Rattle.faults.specs.Check.{badStart, badBlockMultiplier, badCell}
-use Rattle.audit.specs.Checked.{fromStarts}
-use Rattle.faults.proofs.Passing.{starts-pass, multiplier-passes, cell-passes}
+use Rattle.audit.specs.Check.{badStart}
+use Rattle.audit.specs.code.From.{fromStarts}
+use Rattle.audit.proofs.Passing.{starts-pass}
 use Rattle.audit.proofs.check.check_blocks.Statement.{statement}
 use Rattle.audit.proofs.check.check_blocks.Tie as tie
 
@@ -54,24 +53,12 @@ returns-3 c =
       lt-ltb (cell .first-bad-cell .result) (cellCount words) (omega arith),
     )
 
-check-cells-requires : tie.Need-check-cells-requires
-check-cells-requires c κs =
-    let cell = c .before .before .before in
-    let multiplier = cell .before .before in
-    let start = multiplier .before .before in
+check-places-requires : tie.Need-check-places-requires
+check-places-requires c κs =
+    let start = c .before .before .before .before .before .before .before in
     let b = start .before .before .before .before in
     let words = b .args .words .now in
-    let n = codeCount words in
-    let p = b .args .p in (
-      b .pre .0,
-      record {
-        sized = b .pre .1;
-        starts = starts-pass words (b .pre .1 .no-cells) (passed n (badStart words) (omega (arith, start .first-bad-start .ensures)));
-        multipliers = λ j l.
-            multiplier-passes p words j (b .pre .0) .0 (passed n (badBlockMultiplier p words) (omega (arith, multiplier .first-bad-multiplier .ensures)) j l) .1;
-        codes = λ i l. cell-passes p words i (b .pre .0) .0 (passed (cellCount words) (badCell p words) (omega (arith, cell .first-bad-cell .ensures)) i l) .0;
-      },
-    )
+    (b .pre .0, (b .pre .1, starts-pass words (b .pre .1 .no-cells) (passed (codeCount words) (badStart words) (omega (arith, start .first-bad-start .ensures)))))
 
 returns-4 : tie.Need-returns-4
 unfolding fromStarts
@@ -88,7 +75,7 @@ returns-4 c =
       ← cell .first-bad-cell .ensures,
       le-ltb (cell .first-bad-cell .result) (cellCount words) (omega arith),
     )
-    (c .check-cells .ensures)
+    (c .check-places .ensures)
 
 pub check-blocks-spec : {M : Type 1} → statement M
 check-blocks-spec =
@@ -107,5 +94,5 @@ check-blocks-spec =
     (λ c κs. search needs)
     (λ c. search needs)
     returns-3
-    check-cells-requires
+    check-places-requires
     returns-4)

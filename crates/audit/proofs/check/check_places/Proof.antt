@@ -1,6 +1,5 @@
 -- `audit::check::check_places` meets its contract. The loop's invariant: the blocks before j are surveyed (`Surveyed`). The measure is what is
 -- left of the blocks.
--- Assumes nothing.
 use Prim.Native.Nat.{ℕ, _-_, _≤_, _<_, _^_}
 use mathlib.Core.Path.{subst, _∙_}
 use native.Mathlib.Nat.{le-antisymm}
@@ -8,7 +7,7 @@ use native.Mathlib.Omega.{arith}
 use borrow.Author.Needs.{needs}
 use Rattle.hash.proofs.Words.{product-lt}
 use Rattle.table.specs.Words.{codeCount, cellCount}
-use Rattle.faults.proofs.Bounds.{cells-le, total-le}
+use Rattle.audit.proofs.Bounds.{cells-le, total-le}
 use Rattle.audit.proofs.Survey.{Surveyed, Turn, surveyed-none, surveyed-found, surveyed-next, surveyed-all, surveyed-codes, part-within, part-codes}
 use Rattle.audit.proofs.check.check_places.Statement.{statement}
 use Rattle.audit.proofs.check.check_places.Tie as tie

@@ -1,11 +1,10 @@
 -- `audit::check::part_at` meets its contract: the part between start and end is within the words, and holds the codes of block j.
--- Assumes nothing.
 use Prim.Native.Nat.{_≤_}
 use mathlib.Core.Path.{_∙_}
 use native.Mathlib.Omega.{arith}
 use borrow.Author.Needs.{needs}
 use Rattle.table.specs.Words.{cellCount, blockStart, blockEnd}
-use Rattle.faults.proofs.Partition.{start-le-end, end-within}
+use Rattle.audit.proofs.Partition.{start-le-end, end-within}
 use Rattle.audit.proofs.Parts.{part-is}
 use Rattle.audit.proofs.check.part_at.Statement.{statement}
 use Rattle.audit.proofs.check.part_at.Tie as tie

@@ -1,5 +1,4 @@
 -- `audit::check::settle` meets its contract: its tests are the definition's, in the same order.
--- Assumes nothing.
 use native.Mathlib.Omega.{arith}
 use borrow.Author.Tests.{lt-ltb, le-ltb, eq-eqb, ne-eqb}
 use borrow.Author.Needs.{needs}

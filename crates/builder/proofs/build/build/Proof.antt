@@ -1,5 +1,4 @@
 -- `builder::build::build` meets its contract, as `build_at` does with the prime 65,537.
--- Assumes nothing.
 use borrow.Author.Needs.{needs}
 use Rattle.hash.proofs.Primes.{prime-65537}
 use Rattle.builder.proofs.build.build.Statement.{statement}

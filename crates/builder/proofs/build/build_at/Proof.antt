@@ -1,10 +1,9 @@
 -- `builder::build::build_at` meets its contract: its tests are the definition's, in the same order.
--- Assumes nothing.
 use mathlib.Core.Path.{sym}
 use native.Mathlib.Omega.{arith}
 use borrow.Author.Needs.{needs}
-use Rattle.builder.specs.Build.{badCode, badSchedule}
-use Rattle.builder.proofs.Valid.{codes-pass}
+use Rattle.lists.specs.List.{badCode, badSchedule}
+use Rattle.lists.proofs.Valid.{codes-pass}
 use Rattle.builder.proofs.Outcomes.{passes, lengths-differ, too-many-pairs, bad-code, bad-schedule, repeated-code, Passed, too-short, long-enough}
 use Rattle.builder.proofs.build.build_at.Statement.{statement}
 use Rattle.builder.proofs.build.build_at.Tie as tie
@@ -39,9 +38,9 @@ returns-5 c =
     (passes _ (good .before .first-outside .ensures) (good .if3 .left))
     (passes _ (scheduled .before .first-outside2 .ensures) (scheduled .if4 .left)) _ (c .before .first-repeated .ensures) (c .if5 .taken)
 
-build-accepted-requires : tie.Need-build-accepted-requires
+build-valid-requires : tie.Need-build-valid-requires
 unfolding badCode
-build-accepted-requires c κs =
+build-valid-requires c κs =
     let new = c .before in
     let scheduled = new .before .before in
     let good = scheduled .before .before in
@@ -53,7 +52,7 @@ build-accepted-requires c κs =
 
 -- none of 1 to 5 holds
 passed :
-    (c : tie.After-build-accepted)
+    (c : tie.After-build-valid)
     → let start = c .before .before .before .before .before .before .before .before .before .before .before .before .before in
     Passed (start .args .p) (start .args .limit) (start .args .codes .now) (start .args .schedules .now)
 unfolding badCode badSchedule
@@ -71,10 +70,10 @@ passed c =
     }
 
 returns-6 : tie.Need-returns-6
-returns-6 c = let accepted = c .before .before .before in too-short (passed accepted) (accepted .build-accepted .ensures) (c .if6 .taken)
+returns-6 c = let accepted = c .before .before .before in too-short (passed accepted) (accepted .build-valid .ensures) (c .if6 .taken)
 
 returns-7 : tie.Need-returns-7
-returns-7 c = let accepted = c .before .before .before in long-enough (passed accepted) (accepted .build-accepted .ensures) (c .if6 .left)
+returns-7 c = let accepted = c .before .before .before in long-enough (passed accepted) (accepted .build-valid .ensures) (c .if6 .left)
 
 pub build-at-spec : {M : Type 1} → statement M
 build-at-spec =
@@ -92,7 +91,7 @@ build-at-spec =
     (λ c κs. search needs)
     (λ c. search needs)
     returns-5
-    build-accepted-requires
+    build-valid-requires
     (λ c. search needs)
     (λ c. search needs)
     returns-6

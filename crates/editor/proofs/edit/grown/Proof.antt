@@ -1,5 +1,4 @@
 -- `editor::edit::grown` meets its contract: its test is the definition's.
--- Assumes nothing.
 use borrow.Author.Needs.{needs}
 use Rattle.table.proofs.Laws.{tests}
 use Rattle.editor.proofs.edit.grown.Statement.{statement}

@@ -1,5 +1,4 @@
 -- `editor::edit::insert` meets its contract, as `insert_at` does with the prime 65,537.
--- Assumes nothing.
 use borrow.Author.Needs.{needs}
 use Rattle.hash.proofs.Primes.{prime-65537}
 use Rattle.editor.proofs.edit.insert.Statement.{statement}

@@ -1,5 +1,4 @@
 -- `editor::edit::insert_at` meets its contract: its tests are the definition's, in the same order.
--- Assumes nothing.
 use Prim.Native.Nat.{_-_}
 use mathlib.Core.Bool.{false}
 use mathlib.Core.Path.{_≡_, sym, ap, _∙_}
@@ -9,7 +8,7 @@ use Rattle.table.specs.Answers.{outside}
 use Rattle.table.proofs.Laws.{within}
 use Rattle.audit.specs.Checked.{checkedOf}
 use Rattle.audit.proofs.Answered.{refuses, well-formed}
-use Rattle.editor.specs.Edited.{InRange}
+use Rattle.editor.specs.code.Editing.{InRange}
 use Rattle.editor.proofs.Outcomes.{insert-51, insert-52, insert-refused, insert-done}
 use Rattle.editor.proofs.edit.insert_at.Statement.{statement}
 use Rattle.editor.proofs.edit.insert_at.Tie as tie

@@ -1,6 +1,5 @@
 -- `editor::edit::put_in` meets its contract. The arrays begin with the table's pairs, so that the code's index among them decides 53, and
 -- after it is put first they begin with the changed pairs.
--- Assumes nothing.
 use Prim.Native.Nat.{_<_, _≤_}
 use mathlib.Core.Path.{_≡_, sym, _∙_}
 use native.Mathlib.Omega.{arith}

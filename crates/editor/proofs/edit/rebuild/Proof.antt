@@ -1,5 +1,4 @@
 -- `editor::edit::rebuild` meets its contract, case by case of the build's answer.
--- Assumes nothing.
 use mathlib.Core.List.{[], _∷_}
 use borrow.Author.Needs.{needs}
 use Rattle.editor.proofs.Rebuilt.{built, short, no-other}

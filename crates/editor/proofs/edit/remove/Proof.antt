@@ -1,5 +1,4 @@
 -- `editor::edit::remove` meets its contract, as `remove_at` does with the prime 65,537.
--- Assumes nothing.
 use borrow.Author.Needs.{needs}
 use Rattle.hash.proofs.Primes.{prime-65537}
 use Rattle.editor.proofs.edit.remove.Statement.{statement}

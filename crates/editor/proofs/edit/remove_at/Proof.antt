@@ -1,5 +1,4 @@
 -- `editor::edit::remove_at` meets its contract: its tests are the definition's, in the same order.
--- Assumes nothing.
 use Prim.Native.Nat.{_-_}
 use mathlib.Core.Bool.{false}
 use mathlib.Core.Path.{_≡_, sym, ap, _∙_}

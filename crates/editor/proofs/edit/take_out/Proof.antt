@@ -1,6 +1,5 @@
 -- `editor::edit::take_out` meets its contract. The arrays begin with the table's pairs, so that the code's index among them decides 55, and
 -- after its pair is left out they begin with the changed pairs.
--- Assumes nothing.
 use Prim.Native.Nat.{_<_}
 use mathlib.Core.Path.{sym}
 use native.Mathlib.Omega.{arith}

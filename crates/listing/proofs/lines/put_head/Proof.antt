@@ -1,9 +1,8 @@
 -- `listing::lines::put_head` meets its contract: its pieces are those of the line, in their order.
--- Assumes nothing.
 use native.Mathlib.Omega.{arith}
 use borrow.Author.Needs.{needs}
 use Rattle.listing.specs.Listing.{headLine}
-use Rattle.text.proofs.Added.{both}
+use Rattle.decimal.proofs.Added.{both}
 use Rattle.listing.proofs.LineLaws.{head-length}
 use Rattle.listing.proofs.lines.put_head.Statement.{statement}
 use Rattle.listing.proofs.lines.put_head.Tie as tie

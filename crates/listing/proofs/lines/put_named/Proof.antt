@@ -1,7 +1,6 @@
 -- `listing::lines::put_named` meets its contract: two pieces are one.
--- Assumes nothing.
 use borrow.Author.Needs.{needs}
-use Rattle.text.proofs.Added.{both}
+use Rattle.decimal.proofs.Added.{both}
 use Rattle.listing.proofs.lines.put_named.Statement.{statement}
 use Rattle.listing.proofs.lines.put_named.Tie as tie
 

@@ -1,9 +1,8 @@
 -- `listing::lines::put_pair` meets its contract: its pieces are those of the line, in their order.
--- Assumes nothing.
 use native.Mathlib.Omega.{arith}
 use borrow.Author.Needs.{needs}
-use Rattle.listing.specs.Lines.{pairLine}
-use Rattle.text.proofs.Added.{both}
+use Rattle.listing.specs.code.Lines.{pairLine}
+use Rattle.decimal.proofs.Added.{both}
 use Rattle.listing.proofs.LineLaws.{pair-length}
 use Rattle.listing.proofs.lines.put_pair.Statement.{statement}
 use Rattle.listing.proofs.lines.put_pair.Tie as tie

@@ -1,11 +1,11 @@
 -- `listing::lines::put_pairs` meets its contract. Before the turn at i the lines of the pairs from i on are left. The measure is their number.
--- Assumes nothing.
 use Prim.Native.Nat.{_-_}
 use native.Mathlib.Omega.{arith}
 use lib.ListN.{length, drop, drop-of-length-le}
 use Rattle.listing.specs.Listing.{pairLines}
-use Rattle.listing.specs.Lines.{pairLine, paired}
-use Rattle.text.proofs.Added.{SoFar, start, more, next-fits, kept, all}
+use Rattle.listing.specs.code.Lines.{pairLine}
+use Rattle.table.specs.Pairs.{paired}
+use Rattle.decimal.proofs.Added.{SoFar, start, more, next-fits, kept, all}
 use Rattle.listing.proofs.LineLaws.{lines-at}
 use Rattle.listing.proofs.lines.put_pairs.Statement.{statement}
 use Rattle.listing.proofs.lines.put_pairs.Tie as tie

@@ -1,9 +1,8 @@
 -- `listing::lines::put_refused` meets its contract: its pieces are those of the line, in their order.
--- Assumes nothing.
 use native.Mathlib.Omega.{arith}
 use borrow.Author.Needs.{needs}
 use Rattle.listing.specs.Listing.{refusedLine}
-use Rattle.text.proofs.Added.{both}
+use Rattle.decimal.proofs.Added.{both}
 use Rattle.listing.proofs.LineLaws.{refused-length}
 use Rattle.listing.proofs.lines.put_refused.Statement.{statement}
 use Rattle.listing.proofs.lines.put_refused.Tie as tie

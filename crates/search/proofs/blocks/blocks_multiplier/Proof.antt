@@ -1,5 +1,5 @@
 -- `search::blocks::blocks_multiplier` meets its contract. The loop's invariant: no multiplier before k keeps the bound. The measure is p
--- less k. Assumes nothing.
+-- less k.
 use Prim.Native.Nat.{_-_}
 use mathlib.Core.Path.{_≡_}
 use native.Mathlib.Omega.{arith}

@@ -1,5 +1,4 @@
 -- `search::blocks::count_cells` meets its contract. The loop's invariant is `Counting`: the codes from i on are counted. The measure is i.
--- Assumes nothing.
 use Prim.Native.Nat.{_≤_}
 use mathlib.Core.Path.{_≡_, refl, sym}
 use native.Mathlib.Omega.{arith}

@@ -1,5 +1,4 @@
 -- `table::lookup::in_cell` meets its contract: its tests are the definition's, in the same order.
--- Assumes nothing.
 use mathlib.Core.Path.{_∙_, sym}
 use borrow.Author.Needs.{needs}
 use Rattle.table.specs.Lookup.{inCell}

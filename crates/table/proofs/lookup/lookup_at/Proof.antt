@@ -1,5 +1,4 @@
 -- `table::lookup::lookup_at` meets its contract: its tests are the definition's, in the same order.
--- Assumes nothing.
 use mathlib.Core.Path.{_∙_, sym}
 use native.Mathlib.Omega.{arith}
 use borrow.Author.Needs.{needs}

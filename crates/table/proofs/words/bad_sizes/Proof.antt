@@ -1,5 +1,4 @@
 -- `table::words::bad_sizes` meets its contract: each of the four tests gives what it is defined to be, and the first that holds decides.
--- Assumes nothing.
 use mathlib.Core.Path.{_∙_, sym}
 use borrow.Author.Needs.{needs}
 use Rattle.table.specs.Lookup.{badSizes}

@@ -1,5 +1,4 @@
 -- `table::words::block_end` meets its contract: its test is the definition's, on a word that was widened.
--- Assumes nothing.
 use borrow.Author.Needs.{needs}
 use Rattle.table.proofs.Laws.{tests}
 use Rattle.table.proofs.words.block_end.Statement.{statement}

@@ -1,5 +1,4 @@
 -- `table::words::block_multiplier` meets its contract: the word of the definition, at an index from a word that was widened.
--- Assumes nothing.
 use borrow.Author.Needs.{needs}
 use Rattle.table.proofs.words.block_multiplier.Statement.{statement}
 use Rattle.table.proofs.words.block_multiplier.Tie as tie

@@ -1,5 +1,4 @@
 -- `table::words::block_of` meets its contract, by what `hash` gives.
--- Assumes nothing.
 use mathlib.Core.Path.{_∙_}
 use borrow.Author.Needs.{needs}
 use Rattle.table.specs.Words.{blockOf}

@@ -1,5 +1,4 @@
 -- `table::words::cell_code` meets its contract: the word of the definition, at an index from a word that was widened.
--- Assumes nothing.
 use borrow.Author.Needs.{needs}
 use Rattle.table.proofs.words.cell_code.Statement.{statement}
 use Rattle.table.proofs.words.cell_code.Tie as tie

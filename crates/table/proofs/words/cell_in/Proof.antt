@@ -1,5 +1,4 @@
 -- `table::words::cell_in` meets its contract, by what `hash` gives: a place below the block's cells, after its start.
--- Assumes nothing.
 use native.Mathlib.Omega.{arith}
 use borrow.Author.Needs.{needs}
 use Rattle.table.specs.Words.{cellIn}

@@ -1,5 +1,4 @@
 -- `table::words::cell_schedule` meets its contract: the word of the definition, at an index from words that were widened.
--- Assumes nothing.
 use borrow.Author.Needs.{needs}
 use Rattle.table.proofs.words.cell_schedule.Statement.{statement}
 use Rattle.table.proofs.words.cell_schedule.Tie as tie

@@ -1,10 +1,9 @@
 -- `table::words::has_blocks` meets its contract: its tests are the definition's, in the same order.
--- Assumes nothing.
 use mathlib.Core.Path.{ap}
 use mathlib.Core.Bool.{not}
 use borrow.Author.Needs.{needs}
 use borrow.Author.Tests.{lt-ltb, le-ltb, eq-eqb, ne-eqb}
-use Rattle.table.specs.Sized.{hasBlocks}
+use Rattle.table.specs.code.Sized.{hasBlocks}
 use Rattle.table.proofs.words.has_blocks.Statement.{statement}
 use Rattle.table.proofs.words.has_blocks.Tie as tie
 

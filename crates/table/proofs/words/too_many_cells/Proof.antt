@@ -1,5 +1,4 @@
 -- `table::words::too_many_cells` meets its contract: its tests are the definition's, on words that were widened.
--- Assumes nothing.
 use borrow.Author.Needs.{needs}
 use Rattle.table.proofs.Laws.{tests}
 use Rattle.table.proofs.words.too_many_cells.Statement.{statement}

@@ -1,5 +1,4 @@
 -- `table::words::too_short` meets its contract, by what `total` gives.
--- Assumes nothing.
 use borrow.Author.Needs.{needs}
 use Rattle.table.proofs.words.too_short.Statement.{statement}
 use Rattle.table.proofs.words.too_short.Tie as tie

@@ -1,10 +1,9 @@
 -- `writer::write::write_block` meets its contract: the cells that are lent for the search come back as they were, and the part that is lent then with
 -- the pairs.
--- Assumes nothing.
 use mathlib.Core.Path.{refl}
 use native.Mathlib.Nat.{mul-pos}
 use borrow.Author.Needs.{needs}
-use Rattle.cells.proofs.LeastCells.{unplaced-square}
+use Rattle.search.proofs.LeastCells.{unplaced-square}
 use Rattle.writer.proofs.Vacancies.{vacant-part, vacant-separating, again-cleared, again-length, again-written}
 use Rattle.writer.proofs.write.write_block.Statement.{statement}
 use Rattle.writer.proofs.write.write_block.Tie as tie

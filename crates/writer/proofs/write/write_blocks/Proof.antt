@@ -1,5 +1,4 @@
 -- `writer::write::write_blocks` meets its contract: one kind of blocks after the other is written.
--- Assumes nothing.
 use Prim.Native.Nat.{ℕ, _+_, _*_, _≤_}
 use mathlib.Core.Path.{sym}
 use native.Mathlib.Nat.{add-sub-cancel-left}
@@ -7,14 +6,14 @@ use native.Mathlib.Omega.{arith}
 use borrow.Author.Needs.{needs}
 use lib.ListN.{length}
 use lib.Seq.{length-take-le}
-use Rattle.search.specs.Searchable.{mostCodes}
+use Rattle.table.specs.Limits.{room}
 use Rattle.writer.proofs.write.write_blocks.Statement.{statement}
 use Rattle.writer.proofs.write.write_blocks.Tie as tie
 
 -- each list ends before the next one begins
 ends :
     (c : tie.Start)
-    → (c .args .n ≤ mostCodes) × ((c .args .apart .ones ≤ c .args .n) × ((c .args .apart .twos ≤ c .args .n) × ((c .args .apart .mores ≤ c .args .n) × (3 * c .args .n ≤ length (c .args .lists .now)))))
+    → (c .args .n ≤ room) × ((c .args .apart .ones ≤ c .args .n) × ((c .args .apart .twos ≤ c .args .n) × ((c .args .apart .mores ≤ c .args .n) × (3 * c .args .n ≤ length (c .args .lists .now)))))
 ends c =
     let counted = c .pre .1 .0 .0 .counted in
     (c .pre .0 .1, (counted .0, (counted .1 .0, (counted .1 .1, c .pre .1 .0 .1))))

@@ -1,5 +1,4 @@
 -- `writer::write::write_front` meets its contract: the parts for the starts and for the multipliers are lent, and come back with them.
--- Assumes nothing.
 use Prim.Native.Nat.{_+_, _≤_}
 use mathlib.Core.Path.{_∙_}
 use native.Mathlib.Omega.{arith}

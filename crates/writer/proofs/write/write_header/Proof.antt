@@ -1,5 +1,4 @@
 -- `writer::write::write_header` meets its contract: three stores in words that were all set to 0.
--- Assumes nothing.
 use native.Mathlib.Omega.{arith}
 use lib.ListN.{length-set}
 use borrow.Author.Needs.{needs}

@@ -1,11 +1,10 @@
 -- `writer::write::write_more` meets its contract: the group of block j is lent, and its cells start where the words say.
--- Assumes nothing.
 use Prim.Native.Nat.{_+_, _≤_}
 use mathlib.Core.Path.{_≡_, _∙_}
 use native.Mathlib.Omega.{arith}
 use borrow.Author.Needs.{needs}
 use lib.ListN.{length, getD}
-use Rattle.writer.specs.Writing.{startAt}
+use Rattle.writer.specs.code.Writing.{startAt}
 use Rattle.writer.proofs.Pending.{group-length}
 use Rattle.writer.proofs.write.write_more.Statement.{statement}
 use Rattle.writer.proofs.write.write_more.Tie as tie

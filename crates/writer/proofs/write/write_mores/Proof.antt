@@ -1,5 +1,4 @@
 -- `writer::write::write_mores` meets its contract. Invariant: what is left of the list is pending. The measure is what is left.
--- Assumes nothing.
 use Prim.Native.Nat.{_-_, _≤_}
 use mathlib.Core.Bool.{false, _||_}
 use mathlib.Core.Path.{_≡_, refl, _∙_}
@@ -7,8 +6,8 @@ use native.Mathlib.Omega.{arith}
 use borrow.Author.Needs.{needs}
 use borrow.Author.Tests.{ltb-true}
 use lib.ListN.{length, drop}
-use Rattle.refusals.specs.Repeats.{among}
-use Rattle.writer.specs.Writing.{tableBut}
+use Rattle.table.specs.Pairs.{among}
+use Rattle.writer.specs.code.Writing.{tableBut}
 use Rattle.writer.proofs.Listing.{last-sizes, listed-start, listed-more, listed-all, next-block}
 use Rattle.writer.proofs.write.write_mores.Statement.{statement}
 use Rattle.writer.proofs.write.write_mores.Tie as tie

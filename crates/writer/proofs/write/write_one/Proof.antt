@@ -1,5 +1,4 @@
 -- `writer::write::write_one` meets its contract: the code and its schedule are stored where the words say that the block starts.
--- Assumes nothing.
 use Prim.Native.Nat.{_+_, _*_, _<_, _≤_}
 use mathlib.Core.List.{[], _∷_}
 use mathlib.Core.Path.{_≡_, _∙_}
@@ -7,7 +6,7 @@ use native.Mathlib.Omega.{arith}
 use borrow.Author.Needs.{needs}
 use lib.ListN.{length, getD}
 use lib.Seq.{lt-length-set}
-use Rattle.writer.specs.Writing.{startAt, Vacant}
+use Rattle.writer.specs.code.Writing.{startAt, Vacant}
 use Rattle.writer.proofs.Vacancies.{one-value, one-written}
 use Rattle.writer.proofs.write.write_one.Statement.{statement}
 use Rattle.writer.proofs.write.write_one.Tie as tie

@@ -1,6 +1,5 @@
 -- `writer::write::write_ones` meets its contract. Invariant: what is left of the list is pending, and all blocks with more codes. The measure is what
 -- is left.
--- Assumes nothing.
 use Prim.Native.Nat.{_-_, _≤_}
 use mathlib.Core.Bool.{_||_}
 use mathlib.Core.Path.{_≡_, refl, _∙_}
@@ -9,8 +8,8 @@ use borrow.Author.Needs.{needs}
 use borrow.Author.Tests.{eqb-true}
 use lib.Dec.{ltb}
 use lib.ListN.{length, drop}
-use Rattle.refusals.specs.Repeats.{among}
-use Rattle.writer.specs.Writing.{sizeAt, tableBut}
+use Rattle.table.specs.Pairs.{among}
+use Rattle.writer.specs.code.Writing.{sizeAt, tableBut}
 use Rattle.writer.proofs.Listing.{one-size, listed-start, listed-more, listed-all, next-block}
 use Rattle.writer.proofs.write.write_ones.Statement.{statement}
 use Rattle.writer.proofs.write.write_ones.Tie as tie

@@ -1,6 +1,5 @@
 -- `writer::write::write_starts` meets its contract. Invariant: the first j starts are written, and `start` is the next one.
 -- The measure is what is left.
--- Assumes nothing.
 use Prim.Native.Nat.{_-_, _≤_}
 use mathlib.Core.List.{_++_}
 use mathlib.Core.Path.{_≡_, refl}
@@ -9,9 +8,9 @@ use borrow.Author.Needs.{needs}
 use lib.ListN.{length, length-set, drop}
 use Rattle.hash.specs.Hash.{sum}
 use Rattle.table.specs.TwoLevel.{tabulate}
-use Rattle.writer.specs.Writing.{startAt}
+use Rattle.writer.specs.code.Writing.{startAt}
 use Rattle.writer.proofs.Starts.{start-more, start-fits}
-use Rattle.groups.proofs.Parts.{written-more, written-all}
+use Rattle.writer.proofs.Parts.{written-more, written-all}
 use Rattle.writer.proofs.write.write_starts.Statement.{statement}
 use Rattle.writer.proofs.write.write_starts.Tie as tie
 

@@ -1,5 +1,4 @@
 -- `writer::write::write_table` meets its contract: group j is block j, so that what is written from the groups is the table's.
--- Assumes nothing.
 use Prim.Native.Nat.{ℕ, _*_, _<_, _≤_}
 use native.Mathlib.Omega.{arith}
 use borrow.Author.Needs.{needs}

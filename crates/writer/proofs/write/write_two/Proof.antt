@@ -1,12 +1,11 @@
 -- `writer::write::write_two` meets its contract: the two codes are read, and their pairs spread where the words say that the block starts.
--- Assumes nothing.
 use Prim.Native.Nat.{_+_, _*_, _<_, _≤_}
 use mathlib.Core.List.{[], _∷_}
 use mathlib.Core.Path.{_≡_, refl, _∙_}
 use native.Mathlib.Omega.{arith}
 use borrow.Author.Needs.{needs}
 use lib.ListN.{length, getD}
-use Rattle.writer.specs.Writing.{groupAt, startAt, Vacant}
+use Rattle.writer.specs.code.Writing.{groupAt, startAt, Vacant}
 use Rattle.writer.proofs.Vacancies.{two-values, vacant-separating, vacant-cleared, vacant-written}
 use Rattle.writer.proofs.write.write_two.Statement.{statement}
 use Rattle.writer.proofs.write.write_two.Tie as tie

@@ -1,2 +1,0 @@
--- A build of an accepted list.
-pub mod Accepted

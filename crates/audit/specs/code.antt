@@ -1,0 +1,4 @@
+-- The blocks of a table, one block by itself, and the answer from a test on.
+pub mod Starts
+pub mod Blocks
+pub mod From

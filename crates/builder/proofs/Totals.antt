@@ -1,0 +1,93 @@
+-- A build of an accepted list: its total, the words that are kept or written, and the room to work in.
+use Prim.Native.Nat.{ℕ, _+_, _*_, _<_, _≤_}
+use mathlib.Core.List.{List, [], _∷_, _++_}
+use mathlib.Core.Path.{_≡_, sym, ap, _∙_}
+use native.Mathlib.Decide.{ℕ-discrete}
+use native.Mathlib.Omega.{arith}
+use borrow.Author.Tests.{lt-ltb, le-ltb}
+use lib.ListN.{length, getD, drop, List·getD-append}
+use Rattle.hash.specs.Hash.{cells}
+use Rattle.table.specs.Answers.{Answer, given, refused, filled, intoRoom}
+use Rattle.table.specs.TwoLevel.{frontWith, frontOf, tableWith, tableOf, cellsOf, wordsNeeded}
+use Rattle.table.proofs.Chosen.{few-cells, no-cells}
+use Rattle.table.proofs.Contents.{needed-is, table-length}
+use Rattle.search.specs.code.Searchable.{Searchable}
+use Rattle.table.specs.Limits.{room}
+use Rattle.search.specs.code.Blocks.{LeastBlocks, Blocked}
+use Rattle.writer.specs.code.Grouping.{Blocks, Loads}
+use Rattle.writer.specs.code.Writing.{Writable, Room}
+use Rattle.builder.specs.code.Valid.{ValidBuilt}
+
+module _ {p k c : ℕ} {codes : List ℕ} (s : Searchable p codes) (f : LeastBlocks p codes k c) where
+  cells-is : c ≡ cellsOf p codes
+  unfolding cellsOf
+  cells-is = f .cells ∙ ap (λ (q : ℕ). cells p q codes) (f .multiplier)
+
+  abbrev total : ℕ
+  total = 3 + 2 * length codes + 2 * c
+
+  total-is : total ≡ wordsNeeded p codes
+  total-is = omega (arith, needed-is p codes, cells-is)
+
+  -- c is at most 3n
+  few : c ≤ 3 * length codes
+  few =
+      elim (ℕ-discrete (length codes) 0) [
+        | yes none ↦ omega (arith, cells-is, no-cells p codes none)
+        | no some ↦ omega (arith, cells-is, few-cells (s .prime) codes (s .valid) (omega arith))
+      ]
+
+  pub total-fits : total < 4294967296
+  total-fits = omega (arith, few, s .few)
+
+  pub accepted-writable : (schedules : List ℕ) → length schedules ≡ length codes → Writable p k c codes schedules
+  accepted-writable schedules parallel = record { searchable = s; cells-are = f .cells; parallel = parallel }
+
+  module _ (schedules words : List ℕ) where
+    pub too-short : length words < total → ValidBuilt p codes schedules words total words
+    too-short l =
+        let e : intoRoom 6 (wordsNeeded p codes) (length words) ≡ refused 6 total =
+        rw (← total-is, lt-ltb (length words) total l) in
+        record { totals = total-is; words-at-exit = sym (ap (λ (r : Answer). filled r (tableOf p codes schedules) words) e) }
+
+    table-is : tableWith p (frontWith p k codes) c codes schedules ≡ tableOf p codes schedules
+    unfolding tableOf frontOf
+    table-is = rw (f .multiplier, cells-is)
+
+    pub accepted-done :
+        (new : List ℕ) → total ≤ length words → new ≡ tableWith p (frontWith p k codes) c codes schedules
+        → ValidBuilt p codes schedules words total (new ++ drop total words)
+    accepted-done new l is =
+        let e : intoRoom 6 (wordsNeeded p codes) (length words) ≡ given (total ∷ []) =
+        rw (← total-is, le-ltb (length words) total l) in
+        let size : length (tableOf p codes schedules) ≡ total = table-length p codes schedules ∙ sym total-is in
+        record {
+          totals = total-is;
+          words-at-exit =
+              ap (λ (t : List ℕ). t ++ drop total words) (is ∙ table-is)
+              ∙ ap (λ (m : ℕ). tableOf p codes schedules ++ drop m words) (sym size)
+              ∙ sym (ap (λ (r : Answer). filled r (tableOf p codes schedules) words) e);
+        }
+
+-- ---- what the search for k leaves
+
+module _ {p k : ℕ} {codes blocks counts : List ℕ} (b : Blocked p k codes blocks counts) where
+  pub blocked-blocks : length codes ≤ room → length blocks ≡ length codes → Blocks p k codes blocks
+  blocked-blocks few same = record { few = few; each = omega arith; blocks-are = b .blocks-are }
+
+  pub blocked-loads : (rest : List ℕ) → length counts ≡ length codes → Loads p k codes (counts ++ rest)
+  blocked-loads rest same =
+      record { counts-are = λ j l. List·getD-append counts rest 0 j (omega arith) ∙ b .loads-are j l }
+
+-- ---- room to work in
+
+-- room for m codes is room for fewer
+pub room-for :
+    {n m : ℕ} (at grouped paired lists : List ℕ) → n ≤ m → length at ≡ m + 1 → (length grouped ≡ m) × (length paired ≡ m) → length lists ≡ 3 * m
+    → Room n at grouped paired lists
+room-for at grouped paired lists few at-is (grouped-is, paired-is) lists-are =
+    record {
+      at-room = omega (arith, at-is, few);
+      grouped-room = (omega (arith, grouped-is, few), omega (arith, paired-is, few));
+      listed-room = omega (arith, lists-are, few);
+    }

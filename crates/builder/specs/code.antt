@@ -1,0 +1,2 @@
+-- What is left of a build once its list is valid.
+pub mod Valid

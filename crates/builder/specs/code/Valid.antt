@@ -1,0 +1,12 @@
+-- What is left of a build once its list is valid (document 01, "Build", 6).
+use Prim.Native.Nat.{ℕ}
+use mathlib.Core.List.{List}
+use mathlib.Core.Path.{_≡_}
+use lib.ListN.{length}
+use Rattle.table.specs.Answers.{intoRoom, filled}
+use Rattle.table.specs.TwoLevel.{wordsNeeded, tableOf}
+
+-- the total, and the lent words at exit
+pub record ValidBuilt (p : ℕ) (codes schedules words : List ℕ) (total : ℕ) (words′ : List ℕ) : Type 0 where
+  pub totals : total ≡ wordsNeeded p codes
+  pub words-at-exit : words′ ≡ filled (intoRoom 6 (wordsNeeded p codes) (length words)) (tableOf p codes schedules) words

@@ -1,0 +1,112 @@
+// Building the table of a list that is not refused: 6, or the words.
+ghost use mathlib.Core.Path.{_≡_};
+ghost use lib.ListN.{length};
+ghost use Rattle.search.specs.code.Searchable.{Searchable};
+ghost use Rattle.writer.specs.code.Writing.{Room};
+ghost use Rattle.builder.specs.code.Valid.{ValidBuilt};
+use writer::write::write_table;
+
+// Builds the table of a list that 1 to 5 do not refuse, with this room to work in. Gives the total, which is worked out before a word is written; none is
+// where fewer are lent.
+fn build_with(
+    p: u32,
+    codes: &[u32],
+    schedules: &[u32],
+    blocks: &mut [u32],
+    at: &mut [u32],
+    grouped: &mut [u32],
+    paired: &mut [u32],
+    lists: &mut [u16],
+    words: &mut [u32],
+) -> u32
+    requires { ⌜ Searchable p (now codes) ⌝ }
+    requires { ⌜ (length (now schedules) ≡ length (now codes)) × (length (now blocks) ≡ length (now codes)) ⌝ }
+    requires { ⌜ Room (length (now codes)) (now at) (now grouped) (now paired) (now lists) ⌝ }
+    ensures { λ r. ⌜ ValidBuilt p (now (codes .entry)) (now (schedules .entry)) (now (words .entry)) r (now (words .exit)) ⌝ }
+{
+    let n = codes.len();
+    let found = search::blocks::blocks_multiplier(p, codes, blocks, &mut at[..n]);
+    let k = found.k;
+    let c = found.c;
+    let total = 3 + 2 * n + 2 * (c as usize);
+    let given = total as u32;
+    let lent = words.len();
+    if lent < total {
+        return given;
+    }
+    write_table(
+        p,
+        k,
+        c,
+        codes,
+        schedules,
+        blocks,
+        at,
+        grouped,
+        paired,
+        lists,
+        &mut words[..total],
+    );
+    given
+}
+
+// The same with room of its own: as much as the list needs, since all of it is set to 0 at each call.
+pub fn build_valid(p: u32, codes: &[u32], schedules: &[u32], words: &mut [u32]) -> u32
+    requires { ⌜ Searchable p (now codes) ⌝ }
+    requires { ⌜ length (now schedules) ≡ length (now codes) ⌝ }
+    ensures { λ r. ⌜ ValidBuilt p (now (codes .entry)) (now (schedules .entry)) (now (words .entry)) r (now (words .exit)) ⌝ }
+{
+    let n = codes.len();
+    if n <= 32 {
+        let mut blocks = [0u32; 32];
+        let mut at = [0u32; 33];
+        let mut grouped = [0u32; 32];
+        let mut paired = [0u32; 32];
+        let mut lists = [0u16; 96];
+        return build_with(
+            p,
+            codes,
+            schedules,
+            &mut blocks[..n],
+            &mut at,
+            &mut grouped,
+            &mut paired,
+            &mut lists,
+            words,
+        );
+    }
+    if n <= 256 {
+        let mut blocks = [0u32; 256];
+        let mut at = [0u32; 257];
+        let mut grouped = [0u32; 256];
+        let mut paired = [0u32; 256];
+        let mut lists = [0u16; 768];
+        return build_with(
+            p,
+            codes,
+            schedules,
+            &mut blocks[..n],
+            &mut at,
+            &mut grouped,
+            &mut paired,
+            &mut lists,
+            words,
+        );
+    }
+    let mut blocks = [0u32; 2048];
+    let mut at = [0u32; 2049];
+    let mut grouped = [0u32; 2048];
+    let mut paired = [0u32; 2048];
+    let mut lists = [0u16; 6144];
+    build_with(
+        p,
+        codes,
+        schedules,
+        &mut blocks[..n],
+        &mut at,
+        &mut grouped,
+        &mut paired,
+        &mut lists,
+        words,
+    )
+}

@@ -1,0 +1,3 @@
+-- Pieces written one after the other, and the digits of a number.
+pub mod Added
+pub mod Decimal

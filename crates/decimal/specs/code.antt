@@ -1,0 +1,2 @@
+-- What a piece that is written leaves in lent memory.
+pub mod Added

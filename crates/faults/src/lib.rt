@@ -1,2 +1,0 @@
-// A quick test for the last three conditions of a check.
-pub mod places;

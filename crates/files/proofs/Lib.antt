@@ -1,0 +1,2 @@
+-- The words of a file, one by one.
+pub mod WordLaws

@@ -1,0 +1,2 @@
+-- One word of a file.
+pub mod Words

@@ -1,0 +1,15 @@
+-- A byte as a part of a word, and one word of a file.
+use Prim.Native.Nat.{ℕ, _+_, _*_, _<_}
+use mathlib.Core.List.{List}
+use mathlib.Core.Path.{_≡_}
+use lib.ListN.{getD}
+
+-- a byte, widened
+pub record Byte (x r : ℕ) : Type 0 where
+  pub value : r ≡ x
+  pub range : r < 256
+
+-- the word of the four bytes from i on, least byte first
+abbrev pub wordAt : List ℕ → ℕ → ℕ
+wordAt bytes i =
+    getD bytes i 0 + 256 * getD bytes (i + 1) 0 + 65536 * getD bytes (i + 2) 0 + 16777216 * getD bytes (i + 3) 0

@@ -1,0 +1,13 @@
+// The answer of a lookup, for C: the halves of the word that it comes in.
+ghost use Rattle.table.specs.code.OneWord.{unpacked};
+ghost use Rattle.table.specs.Numbers.{Shown};
+use table::answers::Numbered;
+
+pub fn numbered(word: u64) -> Numbered
+    ensures { λ r. ⌜ Shown (unpacked word) r ⌝ }
+{
+    Numbered {
+        number: (word % 4294967296) as u32,
+        value: (word / 4294967296) as u32,
+    }
+}

@@ -1,5 +1,0 @@
--- What the proofs of the functions cite, by topic.
-pub mod Choosing
-pub mod Groups
-pub mod Parts
-mod Spreading

@@ -1,2 +1,0 @@
--- The packed answer over plain words.
-pub mod Probing

@@ -1,2 +1,0 @@
--- A lookup's answer in one word.
-pub mod Packed

@@ -1,0 +1,29 @@
+// The answers of a panel, for C.
+ghost use Rattle.panel.specs.Fired.{firedOf};
+ghost use Rattle.table.specs.Numbers.{Shown};
+use crate::Fired;
+use table::answers::Numbered;
+
+pub fn numbered(f: Fired) -> Numbered
+    ensures { λ r. ⌜ Shown (firedOf f) r ⌝ }
+{
+    match f {
+        Fired::Schedule(s) => Numbered {
+            number: 0,
+            value: s,
+        },
+        Fired::Unknown(i) => Numbered {
+            number: 1000,
+            value: i,
+        },
+        Fired::Refused(number, i) => Numbered { number, value: i },
+        Fired::NoCodes => Numbered {
+            number: 35,
+            value: 0,
+        },
+        Fired::TooManyCodes => Numbered {
+            number: 36,
+            value: 0,
+        },
+    }
+}

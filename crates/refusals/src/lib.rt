@@ -1,3 +1,0 @@
-// The refusals of a list: each function gives the first index at which a test of document 01 fails.
-pub mod range;
-pub mod repeats;

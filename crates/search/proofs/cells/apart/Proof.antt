@@ -1,0 +1,41 @@
+-- `search::cells::apart` meets its contract. The loop's invariant is `Taking`: the codes from i on are tested. The measure is i.
+use native.Mathlib.Omega.{arith}
+use borrow.Author.Needs.{needs}
+use Rattle.hash.proofs.BitSets.{single-is}
+use Rattle.search.proofs.Taking.{Taking, taking-start, taking-more, taking-all}
+use Rattle.search.proofs.cells.apart.Statement.{statement}
+use Rattle.search.proofs.cells.apart.Tie as tie
+
+abbrev Inv-loop : tie.InvT-loop
+Inv-loop p q w reciprocal block taken₀ shared₀ i₀ taken shared i = Taking p q w block i taken shared
+
+abbrev μ-loop : tie.MeasureT-loop
+μ-loop p q w reciprocal block taken₀ shared₀ i₀ taken shared i = i
+
+hash-below-by-requires : tie.Need-hash-below-by-requires Inv-loop μ-loop
+hash-below-by-requires c κs =
+    let start = c .before .before .before .before in
+    (start .pre .0 .1 .0, (start .pre .0 .0 .below _ (omega arith), start .pre .0 .1 .1))
+
+loop-again : tie.Need-loop-again Inv-loop μ-loop
+loop-again c =
+    let test = c .before .before in
+    taking-more (test .before .loop .inv) (test .loop-test .taken) (c .hash-below-by .result) (c .hash-below-by .ensures .value) _
+    (single-is (c .hash-below-by .result) (omega (arith, c .hash-below-by .ensures .range)))
+
+pub apart-spec : {M : Type 1} → statement M
+apart-spec =
+    tie.close
+    (tie.spec
+    Inv-loop
+    μ-loop
+    (λ c. taking-start _ _ _ _)
+    (λ c. omega arith)
+    (λ c. search needs)
+    (λ c. omega arith)
+    hash-below-by-requires
+    (λ c. search needs)
+    (λ c. omega (arith, c .hash-below-by .ensures .range))
+    (λ c. omega arith)
+    loop-again
+    (λ c. taking-all (c .before .loop .inv) (c .loop-test .left)))

@@ -1,0 +1,87 @@
+-- `search::cells::cells_multiplier` meets its contract. The loop's invariant: no multiplier before q separates the block, and the cells are as
+-- they were. The measure is p less q.
+use Prim.Native.Nat.{ℕ, _-_}
+use mathlib.Core.Path.{_≡_, refl, sym, ap, _∙_}
+use native.Mathlib.Omega.{arith}
+use lib.ListN.{length, replicate}
+use Rattle.search.proofs.LeastCells.{TryingCells, unplaced-few, cells-start, cells-found, cells-sized, cells-filled, cells-more}
+use Rattle.search.proofs.cells.cells_multiplier.Statement.{statement}
+use Rattle.search.proofs.cells.cells_multiplier.Tie as tie
+
+abbrev Inv-loop : tie.InvT-loop
+Inv-loop p reciprocal block cells₀ q₀ cells q = TryingCells p block q × (cells ≡ cells₀)
+
+abbrev μ-loop : tie.MeasureT-loop
+μ-loop p reciprocal block cells₀ q₀ cells q = p - q
+
+loop-holds : tie.Need-loop-holds Inv-loop μ-loop
+loop-holds c = (cells-start (c .before .before .pre .0 .codes), refl)
+
+place-block-requires : tie.Need-place-block-requires Inv-loop μ-loop
+place-block-requires c κs =
+    let h = c .before .before in
+    let start = h .before .before .before in (
+      record { codes = start .pre .0 .codes; zeros = h .loop .inv .1 ∙ start .pre .0 .zeros },
+      (omega (arith, h .loop .inv .0 .upto, h .loop .inv .0 .least .below), rw (h .loop .inv .1) (start .pre .1 .1)),
+    )
+
+-- q separates the block: its codes are taken out of the cells again
+cast-undo : tie.Need-cast-undo Inv-loop μ-loop
+cast-undo c =
+    let called = c .before .before .before in
+    let h = called .before .before .before in
+    omega
+    (arith, called .place-block .kept .1 .1 .1 .1 .0, ap length (h .loop .inv .1), unplaced-few (h .before .before .before .pre .0))
+
+undo-requires : tie.Need-undo-requires Inv-loop μ-loop
+undo-requires c κs =
+    let found = c .before in
+    let called = found .before .before .before in
+    let h = called .before .before .before in
+    let start = h .before .before .before in
+    let tried = called .place-block .ensures in
+    let sized = called .place-block .kept .1 .1 .1 .1 .0 ∙ ap length (h .loop .inv .1) in (
+      (start .pre .0 .codes .valid, (omega (arith, h .loop .inv .0 .upto, h .loop .inv .0 .least .below), rw sized (start .pre .1 .1))),
+      cells-filled tried (found .if1 .taken) _ (cells-sized tried (found .if1 .taken)),
+    )
+
+returns : tie.Need-returns Inv-loop μ-loop
+returns c =
+    let undone = c .before .before in
+    let found = undone .before .before in
+    let called = found .before .before .before in
+    let h = called .before .before .before in
+    let tried = called .place-block .ensures in (
+      cells-found tried (h .loop .inv .0) (found .if1 .taken),
+      undone .undo .ensures
+          ∙ ap (λ (n : ℕ). replicate n 0) (cells-sized tried (found .if1 .taken))
+          ∙ sym (h .before .before .before .pre .0 .zeros),
+    )
+
+same-length : tie.Need-same-length Inv-loop μ-loop
+same-length c = ap length (returns c .1)
+
+loop-again : tie.Need-loop-again Inv-loop μ-loop
+loop-again c =
+    let called = c .before .before .before in
+    let h = called .before .before .before in
+    let (next, kept) = cells-more (called .place-block .ensures) (h .loop .inv .0) (c .if1 .left) in
+    (next, kept ∙ h .loop .inv .1)
+
+pub cells-multiplier-spec : {M : Type 1} → statement M
+cells-multiplier-spec =
+    tie.close
+    (tie.spec
+    Inv-loop
+    μ-loop
+    loop-holds
+    place-block-requires
+    cast-undo
+    undo-requires
+    same-length
+    returns
+    (λ c. omega arith)
+    (λ c. omega arith)
+    loop-again
+    (λ c. absurd (omega arith))
+    (λ c. absurd (omega arith)))

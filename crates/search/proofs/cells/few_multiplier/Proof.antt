@@ -1,0 +1,51 @@
+-- `search::cells::few_multiplier` meets its contract. The loop's invariant: no multiplier before q separates the block. The measure is the least one
+-- that does, less q.
+use Prim.Native.Nat.{_-_}
+use mathlib.Core.Path.{sym, _∙_}
+use native.Mathlib.Omega.{arith}
+use borrow.Author.Tests.{not-true, not-false}
+use Rattle.table.specs.TwoLevel.{cellsMultiplier}
+use Rattle.search.proofs.Tries.{trying-more}
+use Rattle.search.proofs.LeastCells.{TryingCells, cells-start, cells-separated, few-cells}
+use Rattle.search.proofs.cells.few_multiplier.Statement.{statement}
+use Rattle.search.proofs.cells.few_multiplier.Tie as tie
+
+abbrev Inv-loop : tie.InvT-loop
+Inv-loop p w reciprocal block q₀ q = TryingCells p block q
+
+abbrev μ-loop : tie.MeasureT-loop
+μ-loop p w reciprocal block q₀ q = cellsMultiplier p block - q
+
+apart-requires : tie.Need-apart-requires Inv-loop μ-loop
+apart-requires c κs =
+    let start = c .before .before in (
+      (start .pre .0 .0 .valid, (omega (arith, c .loop .inv .upto, c .loop .inv .least .below), start .pre .1 .1)),
+      few-cells (start .args .block .now) (start .pre .0 .1) (start .pre .1 .0 .1),
+    )
+
+loop-again : tie.Need-loop-again Inv-loop μ-loop
+loop-again c =
+    let called = c .before in
+    let at = called .before in
+    trying-more (at .loop .inv)
+    (rw (← at .before .before .pre .0 .1) (sym (called .apart .ensures) ∙ not-true _ (c .if1 .taken)))
+
+returns : tie.Need-returns Inv-loop μ-loop
+returns c =
+    let called = c .before in
+    let at = called .before in
+    cells-separated (at .loop .inv)
+    (rw (← at .before .before .pre .0 .1) (sym (called .apart .ensures) ∙ not-false _ (c .if1 .left)))
+
+pub few-multiplier-spec : {M : Type 1} → statement M
+few-multiplier-spec =
+    tie.close
+    (tie.spec
+    Inv-loop
+    μ-loop
+    (λ c. cells-start (c .before .pre .0 .0))
+    apart-requires
+    (λ c. let h = loop-again c in omega (arith, h .upto, h .least .below))
+    (λ c. let h = loop-again c in omega (arith, h .upto))
+    loop-again
+    returns)

@@ -1,0 +1,135 @@
+// The least multiplier q of a block: each q is tried by placing the block's codes in its own cells, which serve as marks.
+ghost use Prim.Native.Nat.{_<_, _≤_};
+ghost use mathlib.Core.Path.{_≡_};
+ghost use mathlib.Core.Bool.{cond};
+ghost use mathlib.Core.List.{[], _∷_};
+ghost use lib.Dec.{eqb};
+ghost use lib.ListN.{length, replicate};
+ghost use Rattle.hash.specs.Hash.{hashOf, together, Codes};
+ghost use Rattle.hash.specs.code.Contract.{Ready};
+ghost use Rattle.search.specs.code.Cells.{square, Unplaced, Placing, Tried, Separated};
+ghost use Rattle.search.specs.code.Searchable.{Searchable};
+use table::numbers::one;
+
+// Takes the codes from `from` on out of their w cells again, which are then all 0.
+fn undo(p: u32, q: u32, w: u32, reciprocal: u64, block: &[u32], from: usize, cells: &mut [u32])
+    requires { ⌜ Codes p (now block) × ((q < p) × Ready p w reciprocal) ⌝ }
+    requires { ⌜ Placing p q w (now block) from (now cells) ⌝ }
+    ensures { λ _. ⌜ now (cells .exit) ≡ replicate w 0 ⌝ }
+{
+    let mut i = from;
+    while i < block.len() {
+        let t = hash::hash_below_by(p, q, w, reciprocal, block[i]) as usize;
+        cells[t] = 0;
+        i += 1;
+    }
+}
+
+// Places the codes of a block by q in its cells, which are all 0, and tells whether no two fall in one cell. Where two do, the cells
+// are all 0 again. The codes are taken from the last, so that a code is tested against those after it, as the definitions do.
+fn place_block(p: u32, q: u32, reciprocal: u64, block: &[u32], cells: &mut [u32]) -> bool
+    requires { ⌜ Unplaced p (now block) (now cells) ⌝ }
+    requires { ⌜ (q < p) × Ready p (length (now cells)) reciprocal ⌝ }
+    ensures { λ r. ⌜ Tried p q (now (block .entry)) (now (cells .entry)) (now (cells .exit)) r ⌝ }
+{
+    let w = cells.len() as u32;
+    let mut i = block.len();
+    while 0 < i {
+        let a = block[i - 1];
+        let t = hash::hash_below_by(p, q, w, reciprocal, a) as usize;
+        if cells[t] != 0 {
+            undo(p, q, w, reciprocal, block, i, cells);
+            return false;
+        }
+        cells[t] = a;
+        i -= 1;
+    }
+    true
+}
+
+// The least multiplier from 1 to p - 1 that puts the codes of a block in different cells. They are placed in the cells, which are all 0 and come
+// back so. The search never gives up: some multiplier separates the codes, so that the loop is left by its answer alone.
+fn cells_multiplier(p: u32, reciprocal: u64, block: &[u32], cells: &mut [u32]) -> u32
+    requires { ⌜ Unplaced p (now block) (now cells) ⌝ }
+    requires { ⌜ (0 < length (now block)) × Ready p (length (now cells)) reciprocal ⌝ }
+    ensures { λ r. ⌜ Separated p (now (block .entry)) r ⌝ }
+    ensures { λ _. ⌜ now (cells .exit) ≡ now (cells .entry) ⌝ }
+{
+    let mut q = 1;
+    while q < p {
+        if place_block(p, q, reciprocal, block, cells) {
+            undo(p, q, cells.len() as u32, reciprocal, block, 0, cells);
+            return q;
+        }
+        q += 1;
+    }
+    q
+}
+
+// Whether q puts the codes of a block in different ones of w cells, told by a bit for each cell that is taken.
+fn apart(p: u32, q: u32, w: u32, reciprocal: u64, block: &[u32]) -> bool
+    requires { ⌜ Codes p (now block) × ((q < p) × Ready p w reciprocal) ⌝ }
+    requires { ⌜ w ≤ 64 ⌝ }
+    ensures { λ r. ⌜ r ≡ eqb (together p q w (now (block .entry))) 0 ⌝ }
+{
+    let mut taken: u64 = 0;
+    let mut shared: u64 = 0;
+    let mut i = block.len();
+    while 0 < i {
+        i -= 1;
+        let bit = 1u64 << hash::hash_below_by(p, q, w, reciprocal, block[i]);
+        shared = shared | (taken & bit);
+        taken = taken | bit;
+    }
+    shared == 0
+}
+
+// The same for a block of at most 8 codes, whose w cells are the bits of one word.
+fn few_multiplier(p: u32, w: u32, reciprocal: u64, block: &[u32]) -> u32
+    requires { ⌜ Searchable p (now block) × (w ≡ square (now block)) ⌝ }
+    requires { ⌜ (0 < length (now block)) × (length (now block) ≤ 8) ⌝ }
+    requires { ⌜ Ready p w reciprocal ⌝ }
+    ensures { λ r. ⌜ Separated p (now (block .entry)) r ⌝ }
+{
+    let mut q = 1;
+    while !apart(p, q, w, reciprocal, block) {
+        q += 1;
+    }
+    q
+}
+
+// Whether q puts two codes in one of four cells.
+fn collide(p: u32, q: u32, a: u32, b: u32) -> bool
+    requires { ⌜ (q < p) × ((a < p) × (b < p)) ⌝ }
+    ensures { λ r. ⌜ r ≡ eqb (hashOf p q 4 a) (hashOf p q 4 b) ⌝ }
+{
+    hash::residue_below(p, q, a) % 4 == hash::residue_below(p, q, b) % 4
+}
+
+// The least multiplier of two codes: nearly all have one of the first three, which is worked out without a branch. The multiplier 1 leaves a code as it
+// is.
+pub fn two_multiplier(p: u32, a: u32, b: u32) -> u32
+    requires { ⌜ Searchable p (a ∷ b ∷ []) ⌝ }
+    ensures { λ r. ⌜ Separated p (a ∷ b ∷ []) r ⌝ }
+{
+    let first = one(a % 4 == b % 4);
+    let second = one(collide(p, 2, a, b));
+    let mut q = 1 + first * (1 + second);
+    while collide(p, q, a, b) {
+        q += 1;
+    }
+    q
+}
+
+// The least multiplier of any block with a code. Its cells are all 0, may serve as marks, and come back as they were.
+pub fn more_multiplier(p: u32, reciprocal: u64, block: &[u32], cells: &mut [u32]) -> u32
+    requires { ⌜ Unplaced p (now block) (now cells) ⌝ }
+    requires { ⌜ (0 < length (now block)) × Ready p (length (now cells)) reciprocal ⌝ }
+    ensures { λ r. ⌜ Separated p (now (block .entry)) r ⌝ }
+    ensures { λ _. ⌜ now (cells .exit) ≡ now (cells .entry) ⌝ }
+{
+    if block.len() <= 8 {
+        return few_multiplier(p, cells.len() as u32, reciprocal, block);
+    }
+    cells_multiplier(p, reciprocal, block, cells)
+}

@@ -1,0 +1,10 @@
+-- The limits of the product (document 01), each said here alone.
+use Prim.Native.Nat.{ℕ}
+
+-- the most pairs of a list, and codes of a table
+abbrev pub mostPairs : ℕ
+mostPairs = 2048
+
+-- the most pairs that local arrays have places for
+abbrev pub room : ℕ
+room = 2048

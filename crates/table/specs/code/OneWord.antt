@@ -1,0 +1,27 @@
+-- A lookup's answer in one word of 64 bits, and the cell that it comes from.
+use Prim.Native.Nat.{ℕ, _+_, _*_, _/_, _%_}
+use mathlib.Core.Bool.{cond}
+use mathlib.Core.List.{[], _∷_}
+use lib.Dec.{eqb}
+use Rattle.hash.specs.Hash.{hashOf}
+use Rattle.table.specs.Answers.{Answer, given, absent, refused, refuse, outside}
+
+-- the answer in a word: a schedule in the upper half, over 0; otherwise 1000 for absent, or a refusal's number
+unfoldable pub unpacked : ℕ → Answer
+unpacked word =
+    cond (eqb (word % 4294967296) 0) (given (word / 4294967296 ∷ []))
+    (cond (eqb word 1000) absent
+    (refused (word % 4294967296) (word / 4294967296)))
+
+-- the answer from a block of m cells, where the code's own cell has these words
+unfoldable pub cellAnswer : ℕ → ℕ → ℕ → ℕ → Answer
+cellAnswer m code stored schedule =
+    cond (eqb m 0) absent
+    (cond (eqb stored code)
+    (refuse (outside 1 999 schedule) 34 0
+    (given (schedule ∷ [])))
+    absent)
+
+-- the index of the word with the code of that cell, in a table of n codes; 0 where the block has no cells
+unfoldable pub cellAt : ℕ → ℕ → ℕ → ℕ → ℕ → ℕ → ℕ
+cellAt p n start m q code = cond (eqb m 0) 0 (3 + 2 * n + (start + hashOf p q m code))

@@ -1,0 +1,119 @@
+// Looking a code up into one word of 64 bits, for callers that take numbers: a schedule in the upper half, or a number in the lower. Whether
+// the code is there decides no branch, since on mixed codes every second one would be mispredicted: both words of a cell are read, and the
+// answer is picked.
+ghost use Prim.Native.Nat.{_+_, _*_, _-_, _≤_};
+ghost use mathlib.Core.Bool.{cond};
+ghost use mathlib.Core.Path.{_≡_};
+ghost use lib.ListN.{getD};
+ghost use Rattle.table.specs.Words.{codeCount, cellCount};
+ghost use Rattle.table.specs.Lookup.{inBlock, lookupOf};
+ghost use Rattle.table.specs.code.Sized.{Block, Part, Within};
+ghost use Rattle.table.specs.Found.{foundOf};
+ghost use Rattle.table.specs.code.OneWord.{unpacked, cellAnswer, cellAt};
+use crate::lookup::Found;
+use crate::lookup::lookup_at;
+use crate::numbers::larger;
+use crate::numbers::outside;
+use crate::numbers::wide;
+use crate::words::block_end;
+use crate::words::block_multiplier;
+use crate::words::block_of;
+use crate::words::block_start;
+use crate::words::has_blocks;
+
+fn answer_word(f: Found) -> u64
+    ensures { λ r. ⌜ unpacked r ≡ foundOf f ⌝ }
+{
+    match f {
+        Found::Schedule(s) => (s as u64) * 4294967296,
+        Found::Absent => 1000,
+        Found::CodeOutOfRange => 31,
+        Found::TooFewWords => 32,
+        Found::BadSizes => 33,
+        Found::BadBlock => 34,
+    }
+}
+
+fn pick(test: bool, yes: u64, no: u64) -> u64
+    ensures { λ r. ⌜ r ≡ cond test yes no ⌝ }
+{
+    if test {
+        return yes;
+    }
+    no
+}
+
+// The answer from a block of m cells, where the code's own cell has these words.
+fn cell_answer(m: u32, code: u32, stored: u32, schedule: u32) -> u64
+    ensures { λ r. ⌜ unpacked r ≡ cellAnswer m code stored schedule ⌝ }
+{
+    let found = pick(
+        outside(1, 999, schedule),
+        34,
+        (schedule as u64) * 4294967296,
+    );
+    pick(m == 0, 1000, pick(stored == code, found, 1000))
+}
+
+// The word with the code of that cell; where there are no cells, some word.
+fn cell_at(p: u32, n: u32, start: u32, m: u32, q: u32, code: u32) -> usize
+    requires { ⌜ 1 ≤ p ⌝ }
+    ensures { λ r. ⌜ Within (cellAt p n start m q code) (3 + 2 * n + (start + m)) r ⌝ }
+{
+    let cell = wide(start) + wide(hash::hash(p, q, larger(1, m), code));
+    if m == 0 {
+        return 0;
+    }
+    3 + 2 * wide(n) + cell
+}
+
+// The answer from the cells between start and end.
+fn probe(p: u32, words: &[u32], code: u32, start: u32, end: u32, q: u32) -> u64
+    requires { ⌜ (1 ≤ p) × Part (now words) start end ⌝ }
+    ensures { λ r. ⌜ unpacked r ≡ cellAnswer (end - start) code (getD (now (words .entry)) (cellAt p (codeCount (now (words .entry))) start (end - start) q code) 0) (getD (now (words .entry)) (cellAt p (codeCount (now (words .entry))) start (end - start) q code + cellCount (now (words .entry))) 0) ⌝ }
+{
+    let m = end - start;
+    let at = cell_at(p, words[0], start, m, q, code);
+    cell_answer(m, code, words[at], words[at + wide(words[1])])
+}
+
+// The answer from block j, the code's own.
+fn block_answer(p: u32, words: &[u32], code: u32, j: usize) -> u64
+    requires { ⌜ (1 ≤ p) × Block (now words) j ⌝ }
+    ensures { λ r. ⌜ unpacked r ≡ inBlock p (now (words .entry)) code j ⌝ }
+{
+    let start = block_start(words, j);
+    let end = block_end(words, j);
+    let q = block_multiplier(words, j);
+    if end < start {
+        return 34;
+    }
+    if words[1] < end {
+        return 34;
+    }
+    if outside(1, p - 1, q) {
+        return pick(start == end, 1000, 34);
+    }
+    probe(p, words, code, start, end, q)
+}
+
+// The answer for any words, with the prime and the limit on the codes of a table. Words without blocks go the plain way.
+pub fn lookup_word_at(p: u32, limit: u32, words: &[u32], code: u32) -> u64
+    requires { ⌜ 1 ≤ p ⌝ }
+    ensures { λ r. ⌜ unpacked r ≡ lookupOf p limit (now (words .entry)) code ⌝ }
+{
+    if outside(1, p - 1, code) {
+        return 31;
+    }
+    if !has_blocks(p, limit, words) {
+        return answer_word(lookup_at(p, limit, words, code));
+    }
+    block_answer(p, words, code, block_of(p, words, code))
+}
+
+// What `lookup` answers, in one word.
+pub fn lookup_word(words: &[u32], code: u32) -> u64
+    ensures { λ r. ⌜ unpacked r ≡ lookupOf 65537 2048 (now (words .entry)) code ⌝ }
+{
+    lookup_word_at(65537, 2048, words, code)
+}
