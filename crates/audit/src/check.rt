@@ -9,11 +9,13 @@ ghost use Rattle.audit.specs.Checked.{checkedOf};
 ghost use Rattle.audit.specs.code.From.{fromSquares, fromPlaces, fromStarts};
 ghost use Rattle.audit.specs.code.Starts.{Starts};
 ghost use Rattle.audit.specs.code.Blocks.{PartRead};
+ghost use Rattle.table.specs.Limits.{mostPairs};
 use crate::blocks::first_next;
 use crate::blocks::test_block;
 use crate::ranges::first_bad_cell;
 use crate::ranges::first_bad_multiplier;
 use crate::ranges::first_bad_start;
+use table::limits::MOST_PAIRS;
 use table::numbers::wide;
 use table::words::bad_multiplier;
 use table::words::block_end;
@@ -167,7 +169,7 @@ pub fn check_at(p: u32, limit: u32, words: &[u32]) -> Checked
 
 // The check of a table from anywhere: accepted, with n and the total, where it is well-formed; otherwise the first refusal of 11 to 21.
 pub fn check(words: &[u32]) -> Checked
-    ensures { λ r. ⌜ checkedOf r ≡ checkOf 65537 2048 (now (words .entry)) ⌝ }
+    ensures { λ r. ⌜ checkedOf r ≡ checkOf 65537 mostPairs (now (words .entry)) ⌝ }
 {
-    check_at(65537, 2048, words)
+    check_at(65537, MOST_PAIRS, words)
 }

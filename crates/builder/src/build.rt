@@ -4,9 +4,11 @@ ghost use Rattle.hash.specs.Theorems.{Prime};
 ghost use Rattle.table.specs.Limits.{room};
 ghost use Rattle.builder.specs.Build.{Built};
 ghost use Rattle.builder.specs.Built.{builtOf};
+ghost use Rattle.table.specs.Limits.{mostPairs};
 use crate::valid::build_valid;
 use lists::range::first_outside;
 use lists::repeats::first_repeated;
+use table::limits::MOST_PAIRS;
 
 pub enum BuildAnswer {
     // the total
@@ -68,7 +70,7 @@ pub fn build_at(
 // Builds the table of a list with the prime 65,537, of at most 2,048 pairs.
 pub fn build(codes: &[u32], schedules: &[u32], words: &mut [u32]) -> BuildAnswer
     ensures { λ r.
-        ⌜ Built 65537 2048 (now (codes .entry)) (now (schedules .entry)) (now (words .entry)) (builtOf r) (now (words .exit)) ⌝ }
+        ⌜ Built 65537 mostPairs (now (codes .entry)) (now (schedules .entry)) (now (words .entry)) (builtOf r) (now (words .exit)) ⌝ }
 {
-    build_at(65537, 2048, codes, schedules, words)
+    build_at(65537, MOST_PAIRS, codes, schedules, words)
 }

@@ -4,6 +4,7 @@ ghost use lib.ListN.{length};
 ghost use Rattle.search.specs.code.Searchable.{Searchable};
 ghost use Rattle.writer.specs.code.Writing.{Room};
 ghost use Rattle.builder.specs.code.Valid.{ValidBuilt};
+use table::limits::ROOM;
 use writer::write::write_table;
 
 // Builds the table of a list that 1 to 5 do not refuse, with this room to work in. Gives the total, which is worked out before a word is written; none is
@@ -93,11 +94,11 @@ pub fn build_valid(p: u32, codes: &[u32], schedules: &[u32], words: &mut [u32]) 
             words,
         );
     }
-    let mut blocks = [0u32; 2048];
-    let mut at = [0u32; 2049];
-    let mut grouped = [0u32; 2048];
-    let mut paired = [0u32; 2048];
-    let mut lists = [0u16; 6144];
+    let mut blocks = [0u32; ROOM];
+    let mut at = [0u32; ROOM + 1];
+    let mut grouped = [0u32; ROOM];
+    let mut paired = [0u32; ROOM];
+    let mut lists = [0u16; 3 * ROOM];
     build_with(
         p,
         codes,

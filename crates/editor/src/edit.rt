@@ -9,6 +9,7 @@ ghost use Rattle.table.specs.Limits.{room};
 ghost use Rattle.editor.specs.Edit.{Inserted, Removed};
 ghost use Rattle.editor.specs.Edited.{editedOf};
 ghost use Rattle.editor.specs.code.Editing.{Listable, InRange, Rebuilding, PutIn, TakenOut};
+ghost use Rattle.table.specs.Limits.{mostPairs};
 use crate::changes::leave_out;
 use crate::changes::position;
 use crate::changes::put_first;
@@ -17,11 +18,10 @@ use audit::check::check_at;
 use builder::build::BuildAnswer;
 use builder::build::build_at;
 use reader::pairs::write_pairs;
+use table::limits::MOST_PAIRS;
+use table::limits::ROOM;
 use table::numbers::outside;
 use table::numbers::wide;
-
-// The most pairs that the local arrays hold.
-const ROOM: usize = 2048;
 
 pub enum Edited {
     // the new total
@@ -156,15 +156,15 @@ pub fn remove_at(p: u32, limit: u32, words: &[u32], code: u32, second: &mut [u32
 // where the old multipliers are not the least. Gives the new total; the words after it are kept. Refused by 51, by 52, as the check refuses
 // the old table, by 53, or by 54 with the new total: then the second buffer is kept.
 pub fn insert(words: &[u32], code: u32, schedule: u32, second: &mut [u32]) -> Edited
-    ensures { λ r. ⌜ Inserted 65537 2048 (now (words .entry)) code schedule (now (second .entry)) (editedOf r) (now (second .exit)) ⌝ }
+    ensures { λ r. ⌜ Inserted 65537 mostPairs (now (words .entry)) code schedule (now (second .entry)) (editedOf r) (now (second .exit)) ⌝ }
 {
-    insert_at(65537, 2048, words, code, schedule, second)
+    insert_at(65537, MOST_PAIRS, words, code, schedule, second)
 }
 
 // Takes a code out. The second buffer takes what the build makes of the pairs that are left. Gives the new total; the words after it are kept.
 // Refused by 51, as the check refuses the old table, by 55, or by 54 with the new total: then the second buffer is kept.
 pub fn remove(words: &[u32], code: u32, second: &mut [u32]) -> Edited
-    ensures { λ r. ⌜ Removed 65537 2048 (now (words .entry)) code (now (second .entry)) (editedOf r) (now (second .exit)) ⌝ }
+    ensures { λ r. ⌜ Removed 65537 mostPairs (now (words .entry)) code (now (second .entry)) (editedOf r) (now (second .exit)) ⌝ }
 {
-    remove_at(65537, 2048, words, code, second)
+    remove_at(65537, MOST_PAIRS, words, code, second)
 }

@@ -4,6 +4,7 @@ ghost use Rattle.panel.specs.Panel.{panelOf};
 ghost use Rattle.audit.specs.Check.{checkOf};
 ghost use Rattle.table.specs.Numbers.{Shown};
 ghost use Rattle.glass_c.specs.Exports.{BuildShown, PairsShown, InsertShown, RemoveShown};
+ghost use Rattle.table.specs.Limits.{mostPairs};
 
 mod found;
 
@@ -11,35 +12,35 @@ use table::answers::Numbered;
 
 #[no_mangle]
 pub extern "C" fn glass_build(codes: &[u32], schedules: &[u32], words: &mut [u32]) -> Numbered
-    ensures { λ r. ⌜ BuildShown 65537 2048 (now (codes .entry)) (now (schedules .entry)) (now (words .entry)) r (now (words .exit)) ⌝ }
+    ensures { λ r. ⌜ BuildShown 65537 mostPairs (now (codes .entry)) (now (schedules .entry)) (now (words .entry)) r (now (words .exit)) ⌝ }
 {
     builder::numbered::numbered(builder::build::build(codes, schedules, words))
 }
 
 #[no_mangle]
 pub extern "C" fn glass_check(words: &[u32]) -> Numbered
-    ensures { λ r. ⌜ Shown (checkOf 65537 2048 (now (words .entry))) r ⌝ }
+    ensures { λ r. ⌜ Shown (checkOf 65537 mostPairs (now (words .entry))) r ⌝ }
 {
     audit::numbered::numbered(audit::check::check(words))
 }
 
 #[no_mangle]
 pub extern "C" fn glass_lookup(words: &[u32], code: u32) -> Numbered
-    ensures { λ r. ⌜ Shown (lookupOf 65537 2048 (now (words .entry)) code) r ⌝ }
+    ensures { λ r. ⌜ Shown (lookupOf 65537 mostPairs (now (words .entry)) code) r ⌝ }
 {
     found::numbered(table::branch_free::lookup_word(words, code))
 }
 
 #[no_mangle]
 pub extern "C" fn glass_panel(words: &[u32], codes: &[u32]) -> Numbered
-    ensures { λ r. ⌜ Shown (panelOf 65537 2048 (now (words .entry)) (now (codes .entry))) r ⌝ }
+    ensures { λ r. ⌜ Shown (panelOf 65537 mostPairs (now (words .entry)) (now (codes .entry))) r ⌝ }
 {
     panel::numbered::numbered(panel::panel(words, codes))
 }
 
 #[no_mangle]
 pub extern "C" fn glass_pairs(words: &[u32], codes: &mut [u32], schedules: &mut [u32]) -> Numbered
-    ensures { λ r. ⌜ PairsShown 65537 2048 (now (words .entry)) (now (codes .entry)) (now (schedules .entry)) r (now (codes .exit)) (now (schedules .exit)) ⌝ }
+    ensures { λ r. ⌜ PairsShown 65537 mostPairs (now (words .entry)) (now (codes .entry)) (now (schedules .entry)) r (now (codes .exit)) (now (schedules .exit)) ⌝ }
 {
     reader::numbered::numbered(reader::pairs::pairs(words, codes, schedules))
 }
@@ -51,14 +52,14 @@ pub extern "C" fn glass_insert(
     schedule: u32,
     second: &mut [u32],
 ) -> Numbered
-    ensures { λ r. ⌜ InsertShown 65537 2048 (now (words .entry)) code schedule (now (second .entry)) r (now (second .exit)) ⌝ }
+    ensures { λ r. ⌜ InsertShown 65537 mostPairs (now (words .entry)) code schedule (now (second .entry)) r (now (second .exit)) ⌝ }
 {
     editor::numbered::numbered(editor::edit::insert(words, code, schedule, second))
 }
 
 #[no_mangle]
 pub extern "C" fn glass_remove(words: &[u32], code: u32, second: &mut [u32]) -> Numbered
-    ensures { λ r. ⌜ RemoveShown 65537 2048 (now (words .entry)) code (now (second .entry)) r (now (second .exit)) ⌝ }
+    ensures { λ r. ⌜ RemoveShown 65537 mostPairs (now (words .entry)) code (now (second .entry)) r (now (second .exit)) ⌝ }
 {
     editor::numbered::numbered(editor::edit::remove(words, code, second))
 }

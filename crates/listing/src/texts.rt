@@ -6,10 +6,12 @@ use audit::check::Checked;
 use files::words_of;
 use reader::pairs::ReadBack;
 use reader::pairs::pairs_at;
+use table::limits::ROOM;
 use table::numbers::wide;
 ghost use Prim.Native.Nat.{_≤_};
 ghost use mathlib.Core.Path.{_≡_};
 ghost use lib.ListN.{length};
+ghost use Rattle.table.specs.Limits.{room};
 ghost use Rattle.audit.specs.Check.{checkOf};
 ghost use Rattle.audit.specs.Checked.{checkedOf};
 ghost use Rattle.reader.specs.ReadBack.{readOf};
@@ -58,7 +60,7 @@ fn number_read(r: ReadBack) -> Numbered
 
 // The first line of a table, and those of its pairs.
 fn put_table(text: &mut [u8; 65536], words: &[u32], codes: &[u32], schedules: &[u32]) -> usize
-    requires { ⌜ (3 ≤ length (now words)) × ((length (now codes) ≤ 2048) × (length (now schedules) ≡ length (now codes))) ⌝ }
+    requires { ⌜ (3 ≤ length (now words)) × ((length (now codes) ≤ room) × (length (now schedules) ≡ length (now codes))) ⌝ }
     ensures { λ r. ⌜ Added (tableLines (now (words .entry)) (now (codes .entry)) (now (schedules .entry))) 0 (now (text .entry)) r (now (text .exit)) ⌝ }
 {
     let end = put_head(text, 0, words[0], words[1], words[2]);
@@ -67,11 +69,11 @@ fn put_table(text: &mut [u8; 65536], words: &[u32], codes: &[u32], schedules: &[
 
 // The text for the words of a file. A table has at most as many codes as there are places, so reading back refuses only what the check does.
 fn list_words(p: u32, limit: u32, words: &[u32], text: &mut [u8; 65536]) -> usize
-    requires { ⌜ (1 ≤ p) × (limit ≤ 2048) ⌝ }
+    requires { ⌜ (1 ≤ p) × (limit ≤ room) ⌝ }
     ensures { λ r. ⌜ Added (textOf (checkOf p limit (now (words .entry))) (now (words .entry))) 0 (now (text .entry)) r (now (text .exit)) ⌝ }
 {
-    let mut codes = [0u32; 2048];
-    let mut schedules = [0u32; 2048];
+    let mut codes = [0u32; ROOM];
+    let mut schedules = [0u32; ROOM];
     match number_read(pairs_at(p, limit, words, &mut codes, &mut schedules)) {
         Numbered::Given(count) => {
             let n = wide(count);
@@ -83,7 +85,7 @@ fn list_words(p: u32, limit: u32, words: &[u32], text: &mut [u8; 65536]) -> usiz
 
 // The text for the bytes of a file.
 pub fn list_file(p: u32, limit: u32, bytes: &[u8], text: &mut [u8; 65536]) -> usize
-    requires { ⌜ (1 ≤ p) × (limit ≤ 2048) ⌝ }
+    requires { ⌜ (1 ≤ p) × (limit ≤ room) ⌝ }
     ensures { λ r. ⌜ FileListed p limit (now (bytes .entry)) (now (text .entry)) r (now (text .exit)) ⌝ }
 {
     if 65536 < bytes.len() {

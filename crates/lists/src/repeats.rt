@@ -9,9 +9,7 @@ ghost use Rattle.lists.specs.code.Marks.{timesIn};
 ghost use Rattle.lists.specs.List.{repeated};
 ghost use Rattle.lists.specs.code.Chains.{Chain};
 ghost use Rattle.lists.specs.code.Marks.{Met};
-
-// The most pairs of a list, for which the local arrays have room. It is as well the number of chains.
-const ROOM: usize = 2048;
+use table::limits::ROOM;
 
 // Whether a is among the codes before `from`, on whose chain of equal residues it would be. A chain goes from a code's index plus one to
 // that of the one before it, down to 0.

@@ -9,9 +9,11 @@ ghost use Rattle.table.specs.code.Sized.{Blocks};
 ghost use Rattle.panel.specs.Panel.{walkOf, panelOf};
 ghost use Rattle.table.specs.Found.{foundOf};
 ghost use Rattle.panel.specs.Fired.{firedOf, endedOf};
+ghost use Rattle.table.specs.Limits.{mostPairs};
 
 pub mod numbered;
 
+use table::limits::MOST_PAIRS;
 use table::lookup::Found;
 use table::lookup::in_block;
 use table::lookup::lookup_at;
@@ -96,7 +98,7 @@ pub fn panel_at(p: u32, limit: u32, words: &[u32], codes: &[u32]) -> Fired
 
 // The schedule of a panel in any words: the largest of its codes, unknown, or refused. It writes nothing and relies on no earlier check.
 pub fn panel(words: &[u32], codes: &[u32]) -> Fired
-    ensures { λ r. ⌜ firedOf r ≡ panelOf 65537 2048 (now (words .entry)) (now (codes .entry)) ⌝ }
+    ensures { λ r. ⌜ firedOf r ≡ panelOf 65537 mostPairs (now (words .entry)) (now (codes .entry)) ⌝ }
 {
-    panel_at(65537, 2048, words, codes)
+    panel_at(65537, MOST_PAIRS, words, codes)
 }

@@ -10,6 +10,8 @@ ghost use Rattle.table.specs.Lookup.{inBlock, lookupOf};
 ghost use Rattle.table.specs.code.Sized.{Block, Part, Within};
 ghost use Rattle.table.specs.Found.{foundOf};
 ghost use Rattle.table.specs.code.OneWord.{unpacked, cellAnswer, cellAt};
+ghost use Rattle.table.specs.Limits.{mostPairs};
+use crate::limits::MOST_PAIRS;
 use crate::lookup::Found;
 use crate::lookup::lookup_at;
 use crate::numbers::larger;
@@ -113,7 +115,7 @@ pub fn lookup_word_at(p: u32, limit: u32, words: &[u32], code: u32) -> u64
 
 // What `lookup` answers, in one word.
 pub fn lookup_word(words: &[u32], code: u32) -> u64
-    ensures { λ r. ⌜ unpacked r ≡ lookupOf 65537 2048 (now (words .entry)) code ⌝ }
+    ensures { λ r. ⌜ unpacked r ≡ lookupOf 65537 mostPairs (now (words .entry)) code ⌝ }
 {
-    lookup_word_at(65537, 2048, words, code)
+    lookup_word_at(65537, MOST_PAIRS, words, code)
 }

@@ -2,6 +2,7 @@
 pub mod answers;
 pub mod branch_free;
 pub mod fill;
+pub mod limits;
 pub mod lookup;
 pub mod numbers;
 pub mod words;

@@ -5,6 +5,8 @@ ghost use mathlib.Core.Path.{_≡_};
 ghost use Rattle.table.specs.Lookup.{inCell, inBlock, lookupOf};
 ghost use Rattle.table.specs.code.Sized.{Block, Cell};
 ghost use Rattle.table.specs.Found.{foundOf};
+ghost use Rattle.table.specs.Limits.{mostPairs};
+use crate::limits::MOST_PAIRS;
 use crate::numbers::outside;
 use crate::words::bad_sizes;
 use crate::words::block_end;
@@ -87,7 +89,7 @@ pub fn lookup_at(p: u32, limit: u32, words: &[u32], code: u32) -> Found
 
 // The schedule of a code in any words: found, absent, or refused by 31 to 34. It writes nothing and relies on no earlier check.
 pub fn lookup(words: &[u32], code: u32) -> Found
-    ensures { λ r. ⌜ foundOf r ≡ lookupOf 65537 2048 (now (words .entry)) code ⌝ }
+    ensures { λ r. ⌜ foundOf r ≡ lookupOf 65537 mostPairs (now (words .entry)) code ⌝ }
 {
-    lookup_at(65537, 2048, words, code)
+    lookup_at(65537, MOST_PAIRS, words, code)
 }
