@@ -145,7 +145,7 @@ fn check_blocks(p: u32, words: &[u32]) -> Checked
 }
 
 // The check for a prime p and a limit on the codes of a table.
-pub fn check_at(p: u32, limit: u32, words: &[u32]) -> Checked
+pub fn check_for(p: u32, limit: u32, words: &[u32]) -> Checked
     requires { ⌜ (1 ≤ p) × (limit ≤ 65536) ⌝ }
     ensures { λ r. ⌜ checkedOf r ≡ checkOf p limit (now (words .entry)) ⌝ }
 {
@@ -171,5 +171,5 @@ pub fn check_at(p: u32, limit: u32, words: &[u32]) -> Checked
 pub fn check(words: &[u32]) -> Checked
     ensures { λ r. ⌜ checkedOf r ≡ checkOf 65537 mostPairs (now (words .entry)) ⌝ }
 {
-    check_at(65537, MOST_PAIRS, words)
+    check_for(65537, MOST_PAIRS, words)
 }

@@ -28,7 +28,7 @@ pub enum BuildAnswer {
 }
 
 // Builds the table of a list, for any prime and limit on the pairs. Gives the total; the words after the table are kept.
-pub fn build_at(
+pub fn build_for(
     p: u32,
     limit: u32,
     codes: &[u32],
@@ -72,5 +72,5 @@ pub fn build(codes: &[u32], schedules: &[u32], words: &mut [u32]) -> BuildAnswer
     ensures { λ r.
         ⌜ Built 65537 mostPairs (now (codes .entry)) (now (schedules .entry)) (now (words .entry)) (builtOf r) (now (words .exit)) ⌝ }
 {
-    build_at(65537, MOST_PAIRS, codes, schedules, words)
+    build_for(65537, MOST_PAIRS, codes, schedules, words)
 }

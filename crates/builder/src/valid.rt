@@ -52,7 +52,7 @@ fn build_with(
 }
 
 // The same with room of its own: as much as the list needs, since all of it is set to 0 at each call.
-pub fn build_valid(p: u32, codes: &[u32], schedules: &[u32], words: &mut [u32]) -> u32
+pub(crate) fn build_valid(p: u32, codes: &[u32], schedules: &[u32], words: &mut [u32]) -> u32
     requires { ⌜ Searchable p (now codes) ⌝ }
     requires { ⌜ length (now schedules) ≡ length (now codes) ⌝ }
     ensures { λ r. ⌜ ValidBuilt p (now (codes .entry)) (now (schedules .entry)) (now (words .entry)) r (now (words .exit)) ⌝ }

@@ -8,7 +8,7 @@ ghost use Rattle.table.specs.Answers.{firstOf};
 ghost use Rattle.editor.specs.code.Lists.{omit};
 
 // The index of a code, the number of codes where it is not among them.
-pub fn position(codes: &[u32], code: u32) -> usize
+pub(crate) fn position(codes: &[u32], code: u32) -> usize
     ensures { λ r. ⌜ r ≡ firstOf (length (now (codes .entry))) (λ i. eqb (getD (now (codes .entry)) i 0) code) ⌝ }
 {
     let mut i = 0;
@@ -22,7 +22,7 @@ pub fn position(codes: &[u32], code: u32) -> usize
 }
 
 // Leaves out the element with index i and puts another first: those before i move up by one.
-pub fn put_first(list: &mut [u32], i: usize, first: u32)
+pub(crate) fn put_first(list: &mut [u32], i: usize, first: u32)
     requires { ⌜ i < length (now list) ⌝ }
     ensures { λ _. ⌜ now (list .exit) ≡ first ∷ omit i (now (list .entry)) ⌝ }
 {
@@ -35,7 +35,7 @@ pub fn put_first(list: &mut [u32], i: usize, first: u32)
 }
 
 // Leaves out the element with index i of the first n: those after it move down by one. Later places are kept.
-pub fn leave_out(list: &mut [u32], n: usize, i: usize)
+pub(crate) fn leave_out(list: &mut [u32], n: usize, i: usize)
     requires { ⌜ (i < n) × (n ≤ length (now list)) ⌝ }
     ensures { λ _. ⌜ take (n - 1) (now (list .exit)) ≡ omit i (take n (now (list .entry))) ⌝ }
 {

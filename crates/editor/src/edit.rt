@@ -14,9 +14,9 @@ use crate::changes::leave_out;
 use crate::changes::position;
 use crate::changes::put_first;
 use audit::check::Checked;
-use audit::check::check_at;
+use audit::check::check_for;
 use builder::build::BuildAnswer;
-use builder::build::build_at;
+use builder::build::build_for;
 use reader::pairs::write_pairs;
 use table::limits::MOST_PAIRS;
 use table::limits::ROOM;
@@ -47,7 +47,7 @@ fn rebuild(p: u32, limit: u32, codes: &[u32], schedules: &[u32], second: &mut [u
     requires { ⌜ Listable p limit (now codes) (now schedules) ⌝ }
     ensures { λ r. ⌜ Rebuilding p (now (codes .entry)) (now (schedules .entry)) (now (second .entry)) (editedOf r) (now (second .exit)) ⌝ }
 {
-    let built = build_at(p, limit, codes, schedules, second);
+    let built = build_for(p, limit, codes, schedules, second);
     match built {
         BuildAnswer::Built(total) => Edited::Rebuilt(total),
         BuildAnswer::TooShort(total) => Edited::TooShort(total),
@@ -111,7 +111,7 @@ fn take_out(p: u32, limit: u32, words: &[u32], code: u32, second: &mut [u32]) ->
 }
 
 // Putting in for a prime p and a limit on the codes of a table.
-pub fn insert_at(
+fn insert_for(
     p: u32,
     limit: u32,
     words: &[u32],
@@ -129,7 +129,7 @@ pub fn insert_at(
     if outside(1, 999, schedule) {
         return Edited::ScheduleOutOfRange;
     }
-    let checked = check_at(p, limit, words);
+    let checked = check_for(p, limit, words);
     let Checked::Accepted(_, _) = checked else {
         return Edited::Refused(checked);
     };
@@ -137,7 +137,7 @@ pub fn insert_at(
 }
 
 // Taking out for a prime p and a limit on the codes of a table.
-pub fn remove_at(p: u32, limit: u32, words: &[u32], code: u32, second: &mut [u32]) -> Edited
+fn remove_for(p: u32, limit: u32, words: &[u32], code: u32, second: &mut [u32]) -> Edited
     requires { ⌜ Prime p ⌝ }
     requires { ⌜ limit ≤ room ⌝ }
     ensures { λ r. ⌜ Removed p limit (now (words .entry)) code (now (second .entry)) (editedOf r) (now (second .exit)) ⌝ }
@@ -145,7 +145,7 @@ pub fn remove_at(p: u32, limit: u32, words: &[u32], code: u32, second: &mut [u32
     if outside(1, p - 1, code) {
         return Edited::CodeOutOfRange;
     }
-    let checked = check_at(p, limit, words);
+    let checked = check_for(p, limit, words);
     let Checked::Accepted(_, _) = checked else {
         return Edited::Refused(checked);
     };
@@ -158,7 +158,7 @@ pub fn remove_at(p: u32, limit: u32, words: &[u32], code: u32, second: &mut [u32
 pub fn insert(words: &[u32], code: u32, schedule: u32, second: &mut [u32]) -> Edited
     ensures { λ r. ⌜ Inserted 65537 mostPairs (now (words .entry)) code schedule (now (second .entry)) (editedOf r) (now (second .exit)) ⌝ }
 {
-    insert_at(65537, MOST_PAIRS, words, code, schedule, second)
+    insert_for(65537, MOST_PAIRS, words, code, schedule, second)
 }
 
 // Takes a code out. The second buffer takes what the build makes of the pairs that are left. Gives the new total; the words after it are kept.
@@ -166,5 +166,5 @@ pub fn insert(words: &[u32], code: u32, schedule: u32, second: &mut [u32]) -> Ed
 pub fn remove(words: &[u32], code: u32, second: &mut [u32]) -> Edited
     ensures { λ r. ⌜ Removed 65537 mostPairs (now (words .entry)) code (now (second .entry)) (editedOf r) (now (second .exit)) ⌝ }
 {
-    remove_at(65537, MOST_PAIRS, words, code, second)
+    remove_for(65537, MOST_PAIRS, words, code, second)
 }

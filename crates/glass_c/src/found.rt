@@ -3,7 +3,7 @@ ghost use Rattle.table.specs.code.OneWord.{unpacked};
 ghost use Rattle.table.specs.Numbers.{Shown};
 use table::answers::Numbered;
 
-pub fn numbered(word: u64) -> Numbered
+pub(crate) fn numbered(word: u64) -> Numbered
     ensures { λ r. ⌜ Shown (unpacked word) r ⌝ }
 {
     Numbered {

@@ -37,7 +37,7 @@ pub fn residue_below(p: u32, k: u32, a: u32) -> u32
 }
 
 // The same of any words.
-pub fn residue(p: u32, k: u32, a: u32) -> u32
+fn residue(p: u32, k: u32, a: u32) -> u32
     requires { ⌜ 0 < p ⌝ }
     ensures { λ r. ⌜ Remainder (k * a) p r ⌝ }
 {
@@ -68,7 +68,7 @@ pub fn reciprocal(p: u32, w: u32) -> u64
 }
 
 // x mod w, by the reciprocal of w: a multiplication in place of a division.
-pub fn remainder_by(p: u32, w: u32, reciprocal: u64, x: u32) -> u32
+fn remainder_by(p: u32, w: u32, reciprocal: u64, x: u32) -> u32
     requires { ⌜ Ready p w reciprocal ⌝ }
     requires { ⌜ x < p ⌝ }
     ensures { λ r. ⌜ Remainder x w r ⌝ }

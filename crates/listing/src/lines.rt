@@ -22,7 +22,7 @@ fn put_named(text: &mut [u8], at: usize, name: &[u8], x: u32) -> usize
 }
 
 // The line of a refusal.
-pub fn put_refused(text: &mut [u8], at: usize, number: u32, value: u32) -> usize
+pub(crate) fn put_refused(text: &mut [u8], at: usize, number: u32, value: u32) -> usize
     requires { ⌜ at + length (refusedLine number value) ≤ length (now text) ⌝ }
     ensures { λ r. ⌜ Added (refusedLine number value) at (now (text .entry)) r (now (text .exit)) ⌝ }
 {
@@ -32,7 +32,7 @@ pub fn put_refused(text: &mut [u8], at: usize, number: u32, value: u32) -> usize
 }
 
 // The first line of a table: its sizes and its multiplier.
-pub fn put_head(text: &mut [u8], at: usize, n: u32, c: u32, k: u32) -> usize
+pub(crate) fn put_head(text: &mut [u8], at: usize, n: u32, c: u32, k: u32) -> usize
     requires { ⌜ at + length (headLine n c k) ≤ length (now text) ⌝ }
     ensures { λ r. ⌜ Added (headLine n c k) at (now (text .entry)) r (now (text .exit)) ⌝ }
 {
@@ -53,7 +53,7 @@ fn put_pair(text: &mut [u8], at: usize, code: u32, schedule: u32) -> usize
 }
 
 // The lines of all pairs, in their order.
-pub fn put_pairs(text: &mut [u8], at: usize, codes: &[u32], schedules: &[u32]) -> usize
+pub(crate) fn put_pairs(text: &mut [u8], at: usize, codes: &[u32], schedules: &[u32]) -> usize
     requires { ⌜ length (now schedules) ≡ length (now codes) ⌝ }
     requires { ⌜ at + length (pairLines (paired (now codes) (now schedules))) ≤ length (now text) ⌝ }
     ensures { λ r. ⌜ Added (pairLines (paired (now (codes .entry)) (now (schedules .entry)))) at (now (text .entry)) r (now (text .exit)) ⌝ }

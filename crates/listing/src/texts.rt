@@ -5,7 +5,7 @@ use crate::lines::put_refused;
 use audit::check::Checked;
 use files::words_of;
 use reader::pairs::ReadBack;
-use reader::pairs::pairs_at;
+use reader::pairs::pairs_for;
 use table::limits::ROOM;
 use table::numbers::wide;
 ghost use Prim.Native.Nat.{_≤_};
@@ -74,7 +74,7 @@ fn list_words(p: u32, limit: u32, words: &[u32], text: &mut [u8; 65536]) -> usiz
 {
     let mut codes = [0u32; ROOM];
     let mut schedules = [0u32; ROOM];
-    match number_read(pairs_at(p, limit, words, &mut codes, &mut schedules)) {
+    match number_read(pairs_for(p, limit, words, &mut codes, &mut schedules)) {
         Numbered::Given(count) => {
             let n = wide(count);
             put_table(text, words, &codes[..n], &schedules[..n])
@@ -84,7 +84,7 @@ fn list_words(p: u32, limit: u32, words: &[u32], text: &mut [u8; 65536]) -> usiz
 }
 
 // The text for the bytes of a file.
-pub fn list_file(p: u32, limit: u32, bytes: &[u8], text: &mut [u8; 65536]) -> usize
+pub(crate) fn list_file(p: u32, limit: u32, bytes: &[u8], text: &mut [u8; 65536]) -> usize
     requires { ⌜ (1 ≤ p) × (limit ≤ room) ⌝ }
     ensures { λ r. ⌜ FileListed p limit (now (bytes .entry)) (now (text .entry)) r (now (text .exit)) ⌝ }
 {

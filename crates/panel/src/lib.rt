@@ -16,7 +16,7 @@ pub mod numbered;
 use table::limits::MOST_PAIRS;
 use table::lookup::Found;
 use table::lookup::in_block;
-use table::lookup::lookup_at;
+use table::lookup::lookup_for;
 use table::numbers::larger;
 use table::numbers::outside;
 use table::numbers::wide;
@@ -80,7 +80,7 @@ fn walk(p: u32, limit: u32, words: &[u32], codes: &[u32]) -> Fired
 }
 
 // The answer for any words and codes, with the prime and the limit on the codes of a table.
-pub fn panel_at(p: u32, limit: u32, words: &[u32], codes: &[u32]) -> Fired
+fn panel_for(p: u32, limit: u32, words: &[u32], codes: &[u32]) -> Fired
     requires { ⌜ 1 ≤ p ⌝ }
     ensures { λ r. ⌜ firedOf r ≡ panelOf p limit (now (words .entry)) (now (codes .entry)) ⌝ }
 {
@@ -91,7 +91,7 @@ pub fn panel_at(p: u32, limit: u32, words: &[u32], codes: &[u32]) -> Fired
         return Fired::TooManyCodes;
     }
     if !has_blocks(p, limit, words) {
-        return ended(lookup_at(p, limit, words, codes[0]), 0);
+        return ended(lookup_for(p, limit, words, codes[0]), 0);
     }
     walk(p, limit, words, codes)
 }
@@ -100,5 +100,5 @@ pub fn panel_at(p: u32, limit: u32, words: &[u32], codes: &[u32]) -> Fired
 pub fn panel(words: &[u32], codes: &[u32]) -> Fired
     ensures { λ r. ⌜ firedOf r ≡ panelOf 65537 mostPairs (now (words .entry)) (now (codes .entry)) ⌝ }
 {
-    panel_at(65537, MOST_PAIRS, words, codes)
+    panel_for(65537, MOST_PAIRS, words, codes)
 }

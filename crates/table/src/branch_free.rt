@@ -13,7 +13,7 @@ ghost use Rattle.table.specs.code.OneWord.{unpacked, cellAnswer, cellAt}
 ghost use Rattle.table.specs.Limits.{mostPairs};
 use crate::limits::MOST_PAIRS;
 use crate::lookup::Found;
-use crate::lookup::lookup_at;
+use crate::lookup::lookup_for;
 use crate::numbers::larger;
 use crate::numbers::outside;
 use crate::numbers::wide;
@@ -100,7 +100,7 @@ fn block_answer(p: u32, words: &[u32], code: u32, j: usize) -> u64
 }
 
 // The answer for any words, with the prime and the limit on the codes of a table. Words without blocks go the plain way.
-pub fn lookup_word_at(p: u32, limit: u32, words: &[u32], code: u32) -> u64
+fn lookup_word_for(p: u32, limit: u32, words: &[u32], code: u32) -> u64
     requires { ⌜ 1 ≤ p ⌝ }
     ensures { λ r. ⌜ unpacked r ≡ lookupOf p limit (now (words .entry)) code ⌝ }
 {
@@ -108,7 +108,7 @@ pub fn lookup_word_at(p: u32, limit: u32, words: &[u32], code: u32) -> u64
         return 31;
     }
     if !has_blocks(p, limit, words) {
-        return answer_word(lookup_at(p, limit, words, code));
+        return answer_word(lookup_for(p, limit, words, code));
     }
     block_answer(p, words, code, block_of(p, words, code))
 }
@@ -117,5 +117,5 @@ pub fn lookup_word_at(p: u32, limit: u32, words: &[u32], code: u32) -> u64
 pub fn lookup_word(words: &[u32], code: u32) -> u64
     ensures { λ r. ⌜ unpacked r ≡ lookupOf 65537 mostPairs (now (words .entry)) code ⌝ }
 {
-    lookup_word_at(65537, MOST_PAIRS, words, code)
+    lookup_word_for(65537, MOST_PAIRS, words, code)
 }

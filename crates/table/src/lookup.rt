@@ -68,7 +68,7 @@ pub fn in_block(p: u32, words: &[u32], code: u32, j: usize) -> Found
 }
 
 // The answer for any words, with the prime and the limit on the codes of a table.
-pub fn lookup_at(p: u32, limit: u32, words: &[u32], code: u32) -> Found
+pub fn lookup_for(p: u32, limit: u32, words: &[u32], code: u32) -> Found
     requires { ⌜ 1 ≤ p ⌝ }
     ensures { λ r. ⌜ foundOf r ≡ lookupOf p limit (now (words .entry)) code ⌝ }
 {
@@ -91,5 +91,5 @@ pub fn lookup_at(p: u32, limit: u32, words: &[u32], code: u32) -> Found
 pub fn lookup(words: &[u32], code: u32) -> Found
     ensures { λ r. ⌜ foundOf r ≡ lookupOf 65537 mostPairs (now (words .entry)) code ⌝ }
 {
-    lookup_at(65537, MOST_PAIRS, words, code)
+    lookup_for(65537, MOST_PAIRS, words, code)
 }

@@ -55,7 +55,7 @@ pub fn too_short(words: &[u32]) -> bool
 }
 
 // Any of 12 to 15.
-pub fn bad_sizes(p: u32, limit: u32, words: &[u32]) -> bool
+pub(crate) fn bad_sizes(p: u32, limit: u32, words: &[u32]) -> bool
     requires { ⌜ (1 ≤ p) × (3 ≤ length (now words)) ⌝ }
     ensures { λ r. ⌜ r ≡ badSizes p limit (now (words .entry)) ⌝ }
 {
@@ -137,7 +137,7 @@ pub fn block_of(p: u32, words: &[u32], code: u32) -> usize
 }
 
 // The cell of block j, which has cells, that is a code's own, counted over the whole table.
-pub fn cell_in(p: u32, words: &[u32], j: usize, code: u32) -> usize
+pub(crate) fn cell_in(p: u32, words: &[u32], j: usize, code: u32) -> usize
     requires { ⌜ (1 ≤ p) × (Block (now words) j × (blockStart (now words) j < blockEnd (now words) j)) ⌝ }
     ensures { λ r. ⌜ Within (cellIn p (now (words .entry)) j code) (blockEnd (now (words .entry)) j) r ⌝ }
 {

@@ -7,7 +7,16 @@ ghost use Rattle.writer.specs.code.Spread.{Cleared, Separating, spreadIn
 use table::numbers::wide;
 
 // The pairs of a block of two, in four cells.
-pub fn spread_two(p: u32, q: u32, a: u32, b: u32, v: u32, u: u32, c: usize, words: &mut [u32])
+pub(crate) fn spread_two(
+    p: u32,
+    q: u32,
+    a: u32,
+    b: u32,
+    v: u32,
+    u: u32,
+    c: usize,
+    words: &mut [u32],
+)
     requires { ⌜ Separating p q (a ∷ b ∷ []) ⌝ }
     requires { ⌜ Cleared (a ∷ b ∷ []) (v ∷ u ∷ []) c (now words) ⌝ }
     ensures { λ _. ⌜ now (words .exit) ≡ spreadIn p q (a ∷ b ∷ []) (v ∷ u ∷ []) c (now (words .entry)) ⌝ }
@@ -21,7 +30,7 @@ pub fn spread_two(p: u32, q: u32, a: u32, b: u32, v: u32, u: u32, c: usize, word
 }
 
 // The pairs of any block, in w cells.
-pub fn spread(
+pub(crate) fn spread(
     p: u32,
     q: u32,
     w: u32,

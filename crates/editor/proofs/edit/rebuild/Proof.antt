@@ -8,17 +8,17 @@ use Rattle.editor.proofs.edit.rebuild.Tie as tie
 returns : tie.Need-returns
 returns c =
     let b = c .before .before .before .before .before in
-    built (b .before .before .before .before .before .pre .1 .1) (_ ∷ []) (rw (c .before .built .given .1) at (b .build-at .ensures))
+    built (b .before .before .before .before .before .pre .1 .1) (_ ∷ []) (rw (c .before .built .given .1) at (b .build-for .ensures))
 
 returns-2 : tie.Need-returns-2
 returns-2 c =
     let b = c .before .before .before .before .before in
-    short (b .before .before .before .before .before .pre .1 .1) _ (rw (c .before .built2 .given .1) at (b .build-at .ensures))
+    short (b .before .before .before .before .before .pre .1 .1) _ (rw (c .before .built2 .given .1) at (b .build-for .ensures))
 
 returns-3 : tie.Need-returns-3
 returns-3 c =
     let b = c .before .before .before in
-    no-other (b .before .before .before .before .before .pre .1 .1) (b .build-at .result) (c .match .keys3) (b .build-at .ensures)
+    no-other (b .before .before .before .before .before .pre .1 .1) (b .build-for .result) (c .match .keys3) (b .build-for .ensures)
 
 pub rebuild-spec : {M : Type 1} → statement M
 rebuild-spec =

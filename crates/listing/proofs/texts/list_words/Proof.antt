@@ -11,10 +11,10 @@ use Rattle.listing.proofs.texts.list_words.Tie as tie
 read : (c : tie.After-wide) →
     let p = c .before .before .before .before .before .before .before in
     let s = p .before .before .before .before .args in
-    Listed (s .p) (s .limit) (s .words .now) (c .wide .result) (p .pairs-at .last .1 .1 .1 .0) (p .pairs-at .last .1 .1 .1 .1 .0)
+    Listed (s .p) (s .limit) (s .words .now) (c .wide .result) (p .pairs-for .last .1 .1 .1 .0) (p .pairs-for .last .1 .1 .1 .1 .0)
 read c =
     let p = c .before .before .before .before .before .before .before in
-    rw (c .wide .ensures .value) (listed (omega arith) (omega arith) (p .pairs-at .ensures) (cc))
+    rw (c .wide .ensures .value) (listed (omega arith) (omega arith) (p .pairs-for .ensures) (cc))
 
 put-table-requires : tie.Need-put-table-requires
 put-table-requires c κs =
@@ -29,7 +29,7 @@ returns-2 c =
     let n = c .before .before .before in
     let g = n .number .given .0 in
     let p = n .before .before .before .before .before in
-    rw (refused-text (omega arith) (omega arith) (p .pairs-at .ensures) {number = g .0} {value = g .1 .0} (cc)) (c .put-refused .ensures)
+    rw (refused-text (omega arith) (omega arith) (p .pairs-for .ensures) {number = g .0} {value = g .1 .0} (cc)) (c .put-refused .ensures)
 
 pub list-words-spec : {M : Type 1} → statement M
 list-words-spec =

@@ -1,4 +1,4 @@
--- `audit::check::check_at` meets its contract: the tests 11 to 15 are the definition's, in the same order, and the rest is that from 16 on.
+-- `audit::check::check_for` meets its contract: the tests 11 to 15 are the definition's, in the same order, and the rest is that from 16 on.
 use mathlib.Core.Bool.{false}
 use mathlib.Core.Path.{_≡_, sym, _∙_}
 use native.Mathlib.Omega.{arith}
@@ -12,8 +12,8 @@ use Rattle.table.proofs.Laws.{sized-by}
 use Rattle.audit.specs.Check.{checkOf}
 use Rattle.audit.specs.code.From.{fromStarts}
 use Rattle.audit.proofs.Bounds.{total-le-by}
-use Rattle.audit.proofs.check.check_at.Statement.{statement}
-use Rattle.audit.proofs.check.check_at.Tie as tie
+use Rattle.audit.proofs.check.check_for.Statement.{statement}
+use Rattle.audit.proofs.check.check_for.Tie as tie
 
 returns : tie.Need-returns
 unfolding checkOf
@@ -92,8 +92,8 @@ returns-6 c =
     rw (three (e .before .before), codes e, cells f, multiplier g, sym (c .before .before .too-short .ensures) ∙ c .before .if5 .left)
     (c .check-blocks .ensures)
 
-pub check-at-spec : {M : Type 1} → statement M
-check-at-spec =
+pub check-for-spec : {M : Type 1} → statement M
+check-for-spec =
     tie.close
     (tie.spec
     returns

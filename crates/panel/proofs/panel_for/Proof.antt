@@ -1,4 +1,4 @@
--- `panel::panel_at` meets its contract: its tests are the definition's, in the same order.
+-- `panel::panel_for` meets its contract: its tests are the definition's, in the same order.
 use Prim.Native.Nat.{_<_}
 use mathlib.Core.Path.{_∙_, sym}
 use native.Mathlib.Omega.{arith}
@@ -8,8 +8,8 @@ use lib.ListN.{length}
 use Rattle.panel.specs.Panel.{panelOf}
 use Rattle.table.proofs.Laws.{has-blocks}
 use Rattle.panel.proofs.Walking.{walk-unread}
-use Rattle.panel.proofs.panel_at.Statement.{statement}
-use Rattle.panel.proofs.panel_at.Tie as tie
+use Rattle.panel.proofs.panel_for.Statement.{statement}
+use Rattle.panel.proofs.panel_for.Tie as tie
 
 returns : tie.Need-returns
 unfolding panelOf
@@ -30,7 +30,7 @@ returns-3 c =
     let codes = few .before .before .before .before .args .codes .now in
     let some : 0 < length codes = omega arith in
     c .ended .ensures ∙
-    rw (c .before .lookup-at .ensures, ne-eqb _ _ (few .before .if1 .left), le-ltb _ _ (few .if2 .left))
+    rw (c .before .lookup-for .ensures, ne-eqb _ _ (few .before .if1 .left), le-ltb _ _ (few .if2 .left))
     (sym (walk-unread _ _ _ codes (sym (none .before .has-blocks .ensures) ∙ not-true _ (none .if3 .taken)) some))
 
 returns-4 : tie.Need-returns-4
@@ -39,8 +39,8 @@ returns-4 c =
     let few = c .before .before .before in
     c .walk .ensures ∙ rw (ne-eqb _ _ (few .before .if1 .left), le-ltb _ _ (few .if2 .left))
 
-pub panel-at-spec : {M : Type 1} → statement M
-panel-at-spec =
+pub panel-for-spec : {M : Type 1} → statement M
+panel-for-spec =
     tie.close
     (tie.spec
     returns

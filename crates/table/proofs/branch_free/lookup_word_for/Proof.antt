@@ -1,4 +1,4 @@
--- `table::branch_free::lookup_word_at` meets its contract, by what the plain lookup and the block's answer give.
+-- `table::branch_free::lookup_word_for` meets its contract, by what the plain lookup and the block's answer give.
 use mathlib.Core.Path.{_∙_, sym}
 use native.Mathlib.Omega.{arith}
 use borrow.Author.Needs.{needs}
@@ -7,15 +7,15 @@ use Rattle.table.specs.Lookup.{lookupOf}
 use Rattle.table.specs.code.OneWord.{unpacked}
 use Rattle.table.proofs.Laws.{sized, has-blocks}
 use Rattle.table.proofs.Steps.{lookup-block}
-use Rattle.table.proofs.branch_free.lookup_word_at.Statement.{statement}
-use Rattle.table.proofs.branch_free.lookup_word_at.Tie as tie
+use Rattle.table.proofs.branch_free.lookup_word_for.Statement.{statement}
+use Rattle.table.proofs.branch_free.lookup_word_for.Tie as tie
 
 returns : tie.Need-returns
 unfolding lookupOf unpacked
 returns c = rw (sym (c .before .outside .ensures) ∙ c .if1 .taken)
 
 returns-2 : tie.Need-returns-2
-returns-2 c = c .answer-word .ensures ∙ c .before .lookup-at .ensures
+returns-2 c = c .answer-word .ensures ∙ c .before .lookup-for .ensures
 
 block-of-requires : tie.Need-block-of-requires
 block-of-requires c κs =
@@ -36,8 +36,8 @@ returns-3 c =
     rw (c .before .block-of .ensures .value)
     (sym (lookup-block _ _ _ _ (sym (r .before .outside .ensures) ∙ r .if1 .left) (blocks .three) (blocks .sizes) (λ none. omega arith)))
 
-pub lookup-word-at-spec : {M : Type 1} → statement M
-lookup-word-at-spec =
+pub lookup-word-for-spec : {M : Type 1} → statement M
+lookup-word-for-spec =
     tie.close
     (tie.spec
     (λ c. search needs)

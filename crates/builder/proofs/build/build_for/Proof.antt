@@ -1,12 +1,12 @@
--- `builder::build::build_at` meets its contract: its tests are the definition's, in the same order.
+-- `builder::build::build_for` meets its contract: its tests are the definition's, in the same order.
 use mathlib.Core.Path.{sym}
 use native.Mathlib.Omega.{arith}
 use borrow.Author.Needs.{needs}
 use Rattle.lists.specs.List.{badCode, badSchedule}
 use Rattle.lists.proofs.Valid.{codes-pass}
 use Rattle.builder.proofs.Outcomes.{passes, lengths-differ, too-many-pairs, bad-code, bad-schedule, repeated-code, Passed, too-short, long-enough}
-use Rattle.builder.proofs.build.build_at.Statement.{statement}
-use Rattle.builder.proofs.build.build_at.Tie as tie
+use Rattle.builder.proofs.build.build_for.Statement.{statement}
+use Rattle.builder.proofs.build.build_for.Tie as tie
 
 returns : tie.Need-returns
 returns c = lengths-differ _ _ _ _ _ (c .if1 .taken)
@@ -75,8 +75,8 @@ returns-6 c = let accepted = c .before .before .before in too-short (passed acce
 returns-7 : tie.Need-returns-7
 returns-7 c = let accepted = c .before .before .before in long-enough (passed accepted) (accepted .build-valid .ensures) (c .if6 .left)
 
-pub build-at-spec : {M : Type 1} → statement M
-build-at-spec =
+pub build-for-spec : {M : Type 1} → statement M
+build-for-spec =
     tie.close
     (tie.spec
     returns

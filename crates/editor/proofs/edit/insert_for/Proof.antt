@@ -1,4 +1,4 @@
--- `editor::edit::insert_at` meets its contract: its tests are the definition's, in the same order.
+-- `editor::edit::insert_for` meets its contract: its tests are the definition's, in the same order.
 use Prim.Native.Nat.{_-_}
 use mathlib.Core.Bool.{false}
 use mathlib.Core.Path.{_≡_, sym, ap, _∙_}
@@ -10,10 +10,10 @@ use Rattle.audit.specs.Checked.{checkedOf}
 use Rattle.audit.proofs.Answered.{refuses, well-formed}
 use Rattle.editor.specs.code.Editing.{InRange}
 use Rattle.editor.proofs.Outcomes.{insert-51, insert-52, insert-refused, insert-done}
-use Rattle.editor.proofs.edit.insert_at.Statement.{statement}
-use Rattle.editor.proofs.edit.insert_at.Tie as tie
+use Rattle.editor.proofs.edit.insert_for.Statement.{statement}
+use Rattle.editor.proofs.edit.insert_for.Tie as tie
 
-abbrev root : tie.After-check-at → tie.Start
+abbrev root : tie.After-check-for → tie.Start
 root c = c .before .before .before .before .before .before .before
 
 in-range : (c : tie.Else1) → outside 1 (c .before .before .before .before .args .p - 1) (c .before .before .before .before .args .code) ≡ false
@@ -31,8 +31,8 @@ returns-2 c = insert-52 _ _ _ _ _ _ (in-range (c .before .before)) (sym (c .befo
 returns-3 : tie.Need-returns-3
 returns-3 c =
     let d = c .before in
-    insert-refused _ _ _ _ _ _ (in-range (d .before .before .before)) (scheduled (d .before)) (checkedOf (d .check-at .result)) (d .check-at .ensures)
-    (refuses (d .check-at .result) (c .match .keys2))
+    insert-refused _ _ _ _ _ _ (in-range (d .before .before .before)) (scheduled (d .before)) (checkedOf (d .check-for .result)) (d .check-for .ensures)
+    (refuses (d .check-for .result) (c .match .keys2))
 
 put-in-requires : tie.Need-put-in-requires
 put-in-requires c κs =
@@ -41,7 +41,7 @@ put-in-requires c κs =
     let s = root d in
     let code = within 1 (s .args .p - 1) (s .args .code) (in-range (d .before .before .before)) in
     let schedule = within 1 999 (s .args .schedule) (scheduled (d .before)) in
-    let accepted = sym (d .check-at .ensures) ∙ ap checkedOf (t .enum-told .given .1) in
+    let accepted = sym (d .check-for .ensures) ∙ ap checkedOf (t .enum-told .given .1) in
     let range : InRange (s .args .p) (s .args .code) (s .args .schedule)
     = record { code-from-one = code .0; code-below = omega arith; schedule-from-one = schedule .0; schedule-to-999 = schedule .1 } in
     (s .pre .0, (s .pre .1, (well-formed _ _ _ _ accepted, range)))
@@ -51,10 +51,10 @@ returns-4 c =
     let t = c .before .before .before .before in
     let d = t .before .before in
     insert-done _ _ _ _ _ _ (in-range (d .before .before .before)) (scheduled (d .before)) _
-    (sym (d .check-at .ensures) ∙ ap checkedOf (t .enum-told .given .1)) (c .before .before .put-in .ensures)
+    (sym (d .check-for .ensures) ∙ ap checkedOf (t .enum-told .given .1)) (c .before .before .put-in .ensures)
 
-pub insert-at-spec : {M : Type 1} → statement M
-insert-at-spec =
+pub insert-for-spec : {M : Type 1} → statement M
+insert-for-spec =
     tie.close
     (tie.spec
     (λ c. search needs)

@@ -1,4 +1,4 @@
--- `table::lookup::lookup_at` meets its contract: its tests are the definition's, in the same order.
+-- `table::lookup::lookup_for` meets its contract: its tests are the definition's, in the same order.
 use mathlib.Core.Path.{_∙_, sym}
 use native.Mathlib.Omega.{arith}
 use borrow.Author.Needs.{needs}
@@ -6,8 +6,8 @@ use borrow.Author.Tests.{lt-ltb, le-ltb}
 use Rattle.table.specs.Lookup.{lookupOf}
 use Rattle.table.proofs.Laws.{sized}
 use Rattle.table.proofs.Steps.{lookup-none, lookup-block}
-use Rattle.table.proofs.lookup.lookup_at.Statement.{statement}
-use Rattle.table.proofs.lookup.lookup_at.Tie as tie
+use Rattle.table.proofs.lookup.lookup_for.Statement.{statement}
+use Rattle.table.proofs.lookup.lookup_for.Tie as tie
 
 returns : tie.Need-returns
 unfolding lookupOf
@@ -46,8 +46,8 @@ returns-5 c =
     rw (c .before .block-of .ensures .value)
     (sym (lookup-block _ _ _ _ (sym (r .before .outside .ensures) ∙ r .if1 .left) (omega arith) (sym (s .before .bad-sizes .ensures) ∙ s .if3 .left) (t .if4 .left)))
 
-pub lookup-at-spec : {M : Type 1} → statement M
-lookup-at-spec =
+pub lookup-for-spec : {M : Type 1} → statement M
+lookup-for-spec =
     tie.close
     (tie.spec
     (λ c. search needs)
