@@ -231,7 +231,7 @@ std::string compare_all() {
     uint64_t damaged = 0, other = 0, exhaustive = 0;
     for (uint32_t turn = 0; turn < lists; turn++) {
         List l = any_list(turn, r);
-        size_t len = GLASS_WORDS(l.codes.size());
+        size_t len = glass_words(l.codes.size());
         if (r.below(8) == 0) len = r.below((uint32_t)len + 1);
         if (r.below(8) == 0) len += r.below(5);
         Words table = built(l.codes, l.schedules, len, r);

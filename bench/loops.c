@@ -16,7 +16,7 @@ glass_answer NAME(pairs)(const uint32_t *, size_t, uint32_t *, size_t, uint32_t 
 static size_t total(const uint32_t *words) { return 3 + 2 * ((size_t)words[0] + words[1]); }
 
 static void *build(const uint32_t *codes, const uint32_t *schedules, size_t n, uint32_t *lent) {
-    return NAME(build)(codes, n, schedules, n, lent, GLASS_WORDS(n)).number == 0 ? lent : 0;
+    return NAME(build)(codes, n, schedules, n, lent, glass_words(n)).number == 0 ? lent : 0;
 }
 
 static void drop(void *words) { (void)words; }

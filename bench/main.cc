@@ -135,7 +135,7 @@ struct Tables {
     const std::vector<structure> &all;
 
     Tables(const std::vector<structure> &structures, size_t size)
-        : n(size), list(fixed_list(n)), schedule_of(65537), tables(structures.size()), lent(structures.size(), Words(GLASS_WORDS(n))),
+        : n(size), list(fixed_list(n)), schedule_of(65537), tables(structures.size()), lent(structures.size(), Words(glass_words(n))),
           all(structures) {
         for (size_t i = 0; i < n; i++) schedule_of[list.codes[i]] = (uint16_t)list.schedules[i];
     }
@@ -229,7 +229,7 @@ uint32_t touch(const List &l, Words &lent) {
 void builds_of(const std::vector<structure> &all, size_t count, Kind kind, int size, size_t codes, bool timed, Results &results) {
     size_t n = sizes[size], at_once = std::max<size_t>(1, 4096 / n);
     std::vector<void *> tables(at_once);
-    std::vector<Words> lent(at_once, Words(GLASS_WORDS(n)));
+    std::vector<Words> lent(at_once, Words(glass_words(n)));
     Words out_codes(n), out_schedules(n);
     Random r(13);
     for (int round = 0; round < ROUNDS; round++) {
@@ -279,7 +279,7 @@ void builds_of(const std::vector<structure> &all, size_t count, Kind kind, int s
 }
 
 void builds_of_two(const std::vector<structure> &all, size_t count, Results &results) {
-    uint32_t lent[GLASS_WORDS(2)];
+    uint32_t lent[8 * 2 - 1];
     Random r(17);
     for (int round = 0; round < ROUNDS; round++)
         for (int two = 0; two < TWOS; two++)

@@ -12,7 +12,7 @@ extern "C" {
 
 typedef struct {
     const char *name;
-    /* from n pairs, in lent memory of GLASS_WORDS(n) words or in its own; null where it cannot */
+    /* from n pairs, in lent memory of glass_words(n) words or in its own; null where it cannot */
     void *(*build)(const uint32_t *codes, const uint32_t *schedules, size_t n, uint32_t *lent);
     void (*drop)(void *);
     /* the schedule of each code, 0 where it is absent */

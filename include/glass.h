@@ -1,7 +1,7 @@
 /* glass.h -- the glass code table of a kiln controller, from C
  *
- * A table is a run of 32-bit words from glass codes (1 to 65536) to firing schedules (1 to 999). It is built from a studio's list of at most
- * 2048 pairs, in any order: the same pairs give the same words. Nothing here allocates, keeps state between calls, or needs a table to have been
+ * A table is a run of 32-bit words from glass codes (1 to 65,536) to firing schedules (1 to 999). It is built from a studio's list of at most
+ * 2,048 pairs, in any order: the same pairs give the same words. Nothing here allocates, keeps state between calls, or needs a table to have been
  * checked before: every function answers every input.
  *
  * Lent memory. An array is lent as a pointer and the number of its elements. The pointer is aligned for uint32_t, and the elements may be read; those
@@ -9,14 +9,11 @@
  * pointer will do): nothing is read or written through it. Arrays that are written may overlap no other array of the same call. A refusal changes nothing
  * that was lent.
  *
- * Stack. glass_insert and glass_remove use up to 132 KiB, glass_pairs up to 84 KiB, glass_build up to 52 KiB, glass_check up to 20 KiB, the
- * others less than 1 KiB.
+ * Stack. STACK
  *
- * Answers. Every function answers a number and a value:
- *
- *   number 0                the result, in value
- *   number GLASS_ABSENT     lookup: the code is not in the table (value 0); panel: unknown, with the index of the first such code in value
- *   any other number        a refusal, with what comes with it in value, 0 where nothing does
+ * Answers. Every function answers a number and a value: GLASS_OK with the result, GLASS_ABSENT (lookup, panel), or a refusal with what comes with it.
+ * Refusals are tested in the order in which each function lists them, each over all pairs, blocks or cells before the next; pairs, blocks and cells are
+ * counted from 0.
  */
 #ifndef GLASS_H
 #define GLASS_H
@@ -29,23 +26,74 @@ extern "C" {
 #endif
 
 typedef struct {
-    uint32_t number;
+    uint32_t number; /* a glass_number */
     uint32_t value;
 } glass_answer;
 
-/* The number of an absent code (lookup) or an unknown one (panel). */
-#define GLASS_ABSENT 1000
+/* Every number that can come back, and what `value` holds with it: 0 where nothing is said. */
+typedef enum {
+    GLASS_OK = 0,                    /* the result, in value */
+    GLASS_ABSENT = 1000,             /* lookup: the table does not have the code; panel: the index of the first code that it does not have */
 
-/* Enough words for any list of n pairs: 8n - 1, and 3 for none. */
-#define GLASS_WORDS(n) ((n) == 0 ? (size_t)3 : (size_t)(n) * 8 - 1)
+    /* a list */
+    GLASS_LENGTHS_DIFFER = 1,        /* codes and schedules are not of one length */
+    GLASS_TOO_MANY_PAIRS = 2,        /* more than GLASS_MOST_PAIRS */
+    GLASS_BAD_CODE = 3,              /* a code is not from 1 to GLASS_MOST_CODE: the first such index */
+    GLASS_BAD_SCHEDULE = 4,          /* a schedule is not from 1 to GLASS_MOST_SCHEDULE: the first such index */
+    GLASS_REPEATED_CODE = 5,         /* a code is equal to an earlier one: the first such index */
+    GLASS_WORDS_TOO_FEW = 6,         /* fewer words are lent than the table takes: the words that it takes */
+
+    /* a table */
+    GLASS_TABLE_TOO_FEW_WORDS = 11,  /* fewer than 3 words */
+    GLASS_TABLE_TOO_MANY_CODES = 12, /* n is above GLASS_MOST_PAIRS */
+    GLASS_TABLE_TOO_MANY_CELLS = 13, /* c is above 3n - 2, or above 0 where n is 0 */
+    GLASS_TABLE_BAD_MULTIPLIER = 14, /* k is not from 1 to 65,536 */
+    GLASS_TABLE_TOO_SHORT = 15,      /* fewer words than the total: the total */
+    GLASS_TABLE_BAD_START = 16,      /* block 0 does not start at 0, or a start is below the one before or above c: the first such block */
+    GLASS_TABLE_BAD_Q = 17,          /* a block's q is not from 1 to 65,536: the first such block */
+    GLASS_TABLE_BAD_CELL = 18,       /* a code or schedule is out of range, or exactly one of the two is 0: the first such cell */
+    GLASS_TABLE_MISPLACED = 19,      /* a code is in a cell that is not its own: the first such cell */
+    GLASS_TABLE_NOT_SQUARE = 20,     /* a block's cells do not number the square of its codes: the first such block */
+    GLASS_TABLE_WRONG_COUNT = 21,    /* the codes do not number n: the codes found */
+
+    /* a lookup; in a panel the value is the code's index */
+    GLASS_CODE_OUT_OF_RANGE = 31,    /* the code is not from 1 to GLASS_MOST_CODE */
+    GLASS_LOOKUP_TOO_FEW_WORDS = 32, /* fewer than 3 words */
+    GLASS_LOOKUP_BAD_SIZES = 33,     /* any of 12 to 15 */
+    GLASS_LOOKUP_BAD_BLOCK = 34,     /* the code's block or cell is damaged */
+
+    /* a panel */
+    GLASS_PANEL_EMPTY = 35,          /* no codes */
+    GLASS_PANEL_TOO_LONG = 36,       /* more than GLASS_MOST_PANEL */
+
+    /* reading back */
+    GLASS_PLACES_TOO_FEW = 41,       /* codes or schedules has fewer places than the table has codes: how many it has */
+
+    /* putting in, taking out */
+    GLASS_EDIT_BAD_CODE = 51,        /* the code is not from 1 to GLASS_MOST_CODE */
+    GLASS_EDIT_BAD_SCHEDULE = 52,    /* the schedule is not from 1 to GLASS_MOST_SCHEDULE */
+    GLASS_EDIT_FULL = 53,            /* the code is new, and the table has GLASS_MOST_PAIRS */
+    GLASS_EDIT_WORDS_TOO_FEW = 54,   /* fewer words are lent than the new table takes: the words that it takes */
+    GLASS_EDIT_NOT_THERE = 55        /* the table does not have the code */
+} glass_number;
+
+/* The limits. */
+enum {
+    GLASS_MOST_PAIRS = 2048,    /* of a list */
+    GLASS_MOST_CODE = 65536,
+    GLASS_MOST_SCHEDULE = 999,
+    GLASS_MOST_PANEL = 64,      /* codes of a panel */
+    GLASS_MOST_WORDS = 16383    /* of a table: 8 * GLASS_MOST_PAIRS - 1 */
+};
+
+/* Words that are enough for any list of n pairs: 8n - 1, and 3 for none. */
+static inline size_t glass_words(size_t n) { return n == 0 ? 3 : 8 * n - 1; }
 
 /* Builds the table of a list into words[0 .. words_len - 1]. codes[i] and schedules[i] are a pair.
  *
  * Result: the table's total of words. Exactly the first `total` words are written; those after them keep what they held.
  *
- * Refusals, in this order: 1, codes_len and schedules_len differ; 2, more than 2048 pairs; 3, a code is not from 1 to 65536, with the index of the
- * first such; 4, a schedule is not from 1 to 999, likewise; 5, a code is equal to an earlier one, with the index of the first such; 6, words_len is less
- * than the total, with the total. words_len = GLASS_WORDS(codes_len) is never 6. */
+ * Refusals: 1 to 6. words_len = glass_words(codes_len) is never 6. */
 glass_answer glass_build(const uint32_t *codes, size_t codes_len, const uint32_t *schedules, size_t schedules_len, uint32_t *words,
                          size_t words_len);
 
@@ -53,34 +101,29 @@ glass_answer glass_build(const uint32_t *codes, size_t codes_len, const uint32_t
  *
  * Result: the table is well-formed; value is its total.
  *
- * Refusals, in this order: 11, fewer than 3 words; 12, more than 2048 codes; 13, more cells than the codes allow; 14, the multiplier is not from 1 to 65536;
- * 15, fewer words than the total, with the total; 16, a block starts wrong, with the first such block; 17, a block's multiplier is not from 1 to 65536,
- * likewise; 18, a cell's code or schedule is out of range, or exactly one of them is 0, with the first such cell; 19, a code is in a cell that
- * is not its own, likewise; 20, a block's cells do not number the square of its codes, with the first such block; 21, the codes do not number what
- * the table says, with the codes found. */
+ * Refusals: 11 to 21. */
 glass_answer glass_check(const uint32_t *words, size_t words_len);
 
 /* Looks a code up, in at most eight words of the table.
  *
- * Result: the code's schedule. GLASS_ABSENT, value 0: the table does not have the code.
+ * Result: the code's schedule, or GLASS_ABSENT.
  *
- * Refusals, with 0: 31, the code is not from 1 to 65536; 32, fewer than 3 words; 33, the sizes or the multiplier are wrong (12 to 15 of glass_check);
- * 34, the code's block or cell is damaged. */
+ * Refusals: 31 to 34. */
 glass_answer glass_lookup(const uint32_t *words, size_t words_len, uint32_t code);
 
-/* Finds the schedule of a panel of 1 to 64 codes: the largest schedule of its codes.
+/* Finds the schedule of a panel, a batch of 1 to GLASS_MOST_PANEL codes fired together: the largest schedule of its codes. The codes are looked up in
+ * their order, and the first one that is absent or refused ends the panel.
  *
- * Result: the schedule. GLASS_ABSENT: the code with the index in value is unknown.
+ * Result: the schedule, or GLASS_ABSENT with the index of the code.
  *
- * Refusals: 35, no codes; 36, more than 64, both with 0; 31 to 34 of glass_lookup, with the index of the code in value. The first code that is
- * absent or refused ends the panel. */
+ * Refusals: 35, 36; then 31 to 34, with the index of the code. */
 glass_answer glass_panel(const uint32_t *words, size_t words_len, const uint32_t *codes, size_t codes_len);
 
 /* Reads a table back: its pairs by rising code into the first places of codes and schedules. Later places keep what they held.
  *
  * Result: the number of pairs.
  *
- * Refusals: those of glass_check; then 41, codes_len or schedules_len is less than the number of pairs, with that number. */
+ * Refusals: 11 to 21; then 41. */
 glass_answer glass_pairs(const uint32_t *words, size_t words_len, uint32_t *codes, size_t codes_len, uint32_t *schedules,
                          size_t schedules_len);
 
@@ -89,16 +132,14 @@ glass_answer glass_pairs(const uint32_t *words, size_t words_len, uint32_t *code
  *
  * Result: the new table's total.
  *
- * Refusals, in this order: 51, the code is not from 1 to 65536; 52, the schedule is not from 1 to 999; those of glass_check on the old table; 53, the code
- * is new and the table has 2048; 54, second_len is less than the new total, with that total. */
+ * Refusals: 51, 52; 11 to 21, of the old table; then 53, 54. */
 glass_answer glass_insert(const uint32_t *words, size_t words_len, uint32_t code, uint32_t schedule, uint32_t *second, size_t second_len);
 
 /* Takes a code out: builds the table of the changed list into second[0 .. second_len - 1], as glass_insert does.
  *
  * Result: the new table's total.
  *
- * Refusals, in this order: 51, the code is not from 1 to 65536; those of glass_check on the old table; 55, the code is not there; 54, second_len is less than
- * the new total, with that total. */
+ * Refusals: 51; 11 to 21, of the old table; then 55, 54. */
 glass_answer glass_remove(const uint32_t *words, size_t words_len, uint32_t code, uint32_t *second, size_t second_len);
 
 #ifdef __cplusplus

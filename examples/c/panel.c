@@ -7,18 +7,18 @@ int main(void)
 {
     const uint32_t codes[] = {4, 7, 8, 17, 20};
     const uint32_t schedules[] = {11, 12, 13, 14, 15};
-    uint32_t words[GLASS_WORDS(5)];
+    uint32_t words[8 * 5 - 1]; /* glass_words(5) */
     const uint32_t panel[] = {7, 17, 4};
 
-    glass_answer built = glass_build(codes, 5, schedules, 5, words, GLASS_WORDS(5));
-    if (built.number != 0) {
+    glass_answer built = glass_build(codes, 5, schedules, 5, words, glass_words(5));
+    if (built.number != GLASS_OK) {
         printf("refused %u %u\n", built.number, built.value);
         return 1;
     }
     printf("built %u words\n", built.value);
     for (uint32_t code = 16; code <= 17; code++) {
         glass_answer found = glass_lookup(words, built.value, code);
-        if (found.number == 0)
+        if (found.number == GLASS_OK)
             printf("code %u: schedule %u\n", code, found.value);
         else if (found.number == GLASS_ABSENT)
             printf("code %u: absent\n", code);
