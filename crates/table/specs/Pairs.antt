@@ -31,11 +31,6 @@ unfoldable pub valueWhere : (ℕ → Bool) → List Pair → ℕ
 valueWhere test [] = 0
 valueWhere test (r ∷ pairs) = cond (test (r .code)) (r .schedule) (valueWhere test pairs)
 
--- what cell i holds of the values listed with codes that have a cell each: the value of the code whose cell it is, 0 where there is none
-unfoldable pub heldAt : (ℕ → ℕ) → List ℕ → List ℕ → ℕ → ℕ
-unfolding paired valueWhere
-heldAt cell codes values i = valueWhere (λ a. eqb (cell a) i) (paired codes values)
-
 -- a is among these codes
 unfoldable pub among : ℕ → List ℕ → Bool
 among a [] = false

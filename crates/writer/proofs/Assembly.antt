@@ -8,15 +8,16 @@ use native.Mathlib.Numerals.{add-one}
 use native.Mathlib.Omega.{arith}
 use lib.Dec.{eqb, ltb}
 use lib.ListN.{length, getD, take, drop}
-use Rattle.hash.specs.Hash.{load, members, sum, cells}
+use Rattle.hash.specs.Hash.{hashOf, load, members, sum, cells}
 use Rattle.hash.proofs.Sums.{sum-ext}
 use Rattle.hash.proofs.Counting.{load-members, load-le}
 use Rattle.hash.proofs.Members.{members-codes}
-use Rattle.table.specs.TwoLevel.{tabulate, cellsMultiplier, startOf, frontWith, heldIn, tableWith}
+use Rattle.table.specs.Words.{ownCell}
+use Rattle.table.specs.TwoLevel.{tabulate, cellsMultiplier, startOf, frontWith, heldAt, tableWith}
 use Rattle.table.proofs.Tabulate.{tabulate-ext}
 use Rattle.table.proofs.Front.{blockQ, start-last, front-parts, front-fronted}
 use Rattle.search.specs.code.Searchable.{Searchable}
-use Rattle.search.specs.code.Placed.{heldBy, valuesOf}
+use Rattle.search.specs.code.Placed.{valuesOf}
 use Rattle.search.specs.code.Cells.{filledBy}
 use Rattle.search.proofs.PlacedLaws.{valuesOf-codes}
 use Rattle.search.proofs.BlockCells.{block-cells}
@@ -103,7 +104,7 @@ module _
     -- the cells of all blocks before block j, none of them pending
     cells-are :
         {values these : List ℕ} → length values ≡ length codes → Grouped p k codes values at these → (j : ℕ) → j ≤ length codes
-        → runs (cellsBut p at grouped these (λ i. false)) j ≡ tabulate (heldIn p (frontWith p k codes) codes values) (startOf p k codes j)
+        → runs (cellsBut p at grouped these (λ i. false)) j ≡ tabulate (heldAt (ownCell p (frontWith p k codes)) codes values) (startOf p k codes j)
     unfolding runs startOf sum tabulate
     cells-are parallel these zero l = refl
     cells-are {values} parallel these (suc j) l =
@@ -111,7 +112,7 @@ module _
         let own : List ℕ = valuesOf p k (length codes) j codes values in
         ap₂ (λ (s t : List ℕ). s ++ t) (cells-are parallel these j (omega arith))
         (ap₂ (λ (s t : List ℕ). filledBy p (cellsMultiplier p s) s t) (codes-are j l) (group-is these j l)
-        ∙ ap (λ (m : ℕ). tabulate (heldBy p (cellsMultiplier p block) (m * m) block own) (m * m)) (load-members p k (length codes) j codes))
+        ∙ ap (λ (m : ℕ). tabulate (heldAt (hashOf p (cellsMultiplier p block) (m * m)) block own) (m * m)) (load-members p k (length codes) j codes))
         ∙ sym (block-cells (front-fronted p k codes) j l values parallel)
 
     -- the table whose blocks are all written
@@ -121,7 +122,7 @@ module _
     unfolding tableWith
     none-pending {words} is =
         let m : ℕ = length codes in
-        let held : List ℕ → ℕ → List ℕ = λ (values : List ℕ). tabulate (heldIn p (frontWith p k codes) codes values) in
+        let held : List ℕ → ℕ → List ℕ = λ (values : List ℕ). tabulate (heldAt (ownCell p (frontWith p k codes)) codes values) in
         let starts : tabulate (startAt at) m ≡ tabulate (startOf p k codes) m =
         tabulate-ext (startAt at) (startOf p k codes) m (λ j l. start-is g j (omega arith)) in
         let multipliers : tabulate (multiplierAt p at grouped) m ≡ tabulate (blockQ p k codes) m =

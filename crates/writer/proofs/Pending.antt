@@ -10,11 +10,11 @@ use native.Mathlib.Omega.{arith}
 use borrow.Author.Tests.{lt-ltb, le-ltb}
 use lib.ListN.{length, getD, take, drop, set, replicate, length-append, length-drop, length-replicate}
 use lib.Seq.{take-at, drop-at, length-take-le, getD-append-add}
+use Rattle.hash.specs.Hash.{hashOf}
 use Rattle.hash.proofs.Indicators.{true-or-false}
-use Rattle.table.specs.TwoLevel.{tabulate, cellsMultiplier}
+use Rattle.table.specs.TwoLevel.{tabulate, cellsMultiplier, heldAt}
 use Rattle.table.proofs.Tabulate.{tabulate-length, tabulate-ext, tabulate-set, tabulate-head, tabulate-past}
 use Rattle.search.specs.code.Cells.{square, filledBy}
-use Rattle.search.specs.code.Placed.{heldBy}
 use Rattle.search.proofs.LeastCells.{cells-none}
 use Rattle.writer.specs.code.Writing.{sizeAt, groupAt, startAt, multiplierAt, runs, multiplierBut, cellsBut, tableBut, Groups, above, Vacant, blockIn}
 use Rattle.writer.specs.code.Spread.{spreadIn}
@@ -63,7 +63,7 @@ regathered :
 regathered h m ea ef ex eb eg ey = rw (ea, ef, ex, eb, eg, ey) (simp append-assoc refl)
 
 filled-length : (p q : ℕ) (block values : List ℕ) → length (filledBy p q block values) ≡ square block
-filled-length p q block values = tabulate-length (heldBy p q (square block) block values) (square block)
+filled-length p q block values = tabulate-length (heldAt (hashOf p q (square block)) block values) (square block)
 
 module _ {p n c : ℕ} {at grouped paired : List ℕ} (g : Groups p n c at grouped paired) where
   values-length : (j : ℕ) (values : List ℕ) → getD at (j + 1) 0 ≤ length values → length (groupAt at values j) ≡ sizeAt at j
