@@ -21,8 +21,8 @@ use Rattle.search.specs.code.Placed.{valuesOf}
 use Rattle.search.specs.code.Cells.{filledBy}
 use Rattle.search.proofs.PlacedLaws.{valuesOf-codes}
 use Rattle.search.proofs.BlockCells.{block-cells}
-use Rattle.writer.specs.code.Grouping.{before, Loads, chosen, ListedApart, Grouped}
-use Rattle.writer.specs.code.Writing.{sizeAt, groupAt, startAt, multiplierAt, runs, cellsBut, tableBut, Offsets, Groups, Writable}
+use Rattle.writer.specs.code.Grouping.{before, Loads, chosen, ListedBySize, Grouped}
+use Rattle.writer.specs.code.Writing.{sizeAt, groupAt, startAt, multiplierAt, joined, cellsBut, tableBut, Offsets, Groups, Writable}
 use Rattle.writer.proofs.Groups.{before-next, before-le}
 use Rattle.writer.proofs.Choosing.{chosen-ext}
 
@@ -50,7 +50,7 @@ module _ {p k : ℕ} {codes values at grouped : List ℕ} (g : Grouped p k codes
 
   -- listed by their loads the blocks are listed by their groups' sizes
   pub listed-sizes :
-      {loads lists : List ℕ} {o t s : ℕ} → Loads p k codes loads → ListedApart n (λ j. getD loads j 0) o t s lists → ListedApart n (sizeAt at) o t s lists
+      {loads lists : List ℕ} {o t s : ℕ} → Loads p k codes loads → ListedBySize n (λ j. getD loads j 0) o t s lists → ListedBySize n (sizeAt at) o t s lists
   listed-sizes {loads} h a =
       let same : (kind : ℕ → Bool) → chosen (λ j. kind (getD loads j 0)) n ≡ chosen (λ j. kind (sizeAt at j)) n =
       λ kind. chosen-ext n (λ j l. ap kind (h .counts-are j l ∙ sym (size-is j l))) in
@@ -64,8 +64,8 @@ module _ {p k : ℕ} {codes values at grouped : List ℕ} (g : Grouped p k codes
 -- ---- the groups of codes, and those of their schedules
 
 module _
-    {p k c : ℕ} {codes schedules at grouped paired : List ℕ} (d : Writable p k c codes schedules) (g : Grouped p k codes codes at grouped)
-    (h : Grouped p k codes schedules at paired)
+    {p k c : ℕ} {codes schedules at grouped scheduled : List ℕ} (d : Writable p k c codes schedules) (g : Grouped p k codes codes at grouped)
+    (h : Grouped p k codes schedules at scheduled)
   where
     all-is : startAt at (length codes) ≡ c
     all-is = start-is g (length codes) (omega arith) ∙ start-last p k codes ∙ sym (d .cells-are)
@@ -74,8 +74,8 @@ module _
     codes-are j l = group-is g j l ∙ valuesOf-codes p k (length codes) j codes
 
     pub both-groups :
-        length codes < length at → c < 4294967296 → (length codes ≤ length grouped) × (length codes ≤ length paired)
-        → Groups p (length codes) c at grouped paired
+        length codes < length at → c < 4294967296 → (length codes ≤ length grouped) × (length codes ≤ length scheduled)
+        → Groups p (length codes) c at grouped scheduled
     both-groups room fits within =
         record {
           offsets =
@@ -104,8 +104,8 @@ module _
     -- the cells of all blocks before block j, none of them pending
     cells-are :
         {values these : List ℕ} → length values ≡ length codes → Grouped p k codes values at these → (j : ℕ) → j ≤ length codes
-        → runs (cellsBut p at grouped these (λ i. false)) j ≡ tabulate (heldAt (ownCell p (frontWith p k codes)) codes values) (startOf p k codes j)
-    unfolding runs startOf sum tabulate
+        → joined (cellsBut p at grouped these (λ i. false)) j ≡ tabulate (heldAt (ownCell p (frontWith p k codes)) codes values) (startOf p k codes j)
+    unfolding joined startOf sum tabulate
     cells-are parallel these zero l = refl
     cells-are {values} parallel these (suc j) l =
         let block : List ℕ = members p k (length codes) j codes in
@@ -117,7 +117,7 @@ module _
 
     -- the table whose blocks are all written
     pub none-pending :
-        {words : List ℕ} → words ≡ tableBut p (length codes) c k at grouped paired (λ j. false)
+        {words : List ℕ} → words ≡ tableBut p (length codes) c k at grouped scheduled (λ j. false)
         → words ≡ tableWith p (frontWith p k codes) c codes schedules
     unfolding tableWith
     none-pending {words} is =
@@ -128,9 +128,9 @@ module _
         let multipliers : tabulate (multiplierAt p at grouped) m ≡ tabulate (blockQ p k codes) m =
         tabulate-ext (multiplierAt p at grouped) (blockQ p k codes) m (λ j l. ap (cellsMultiplier p) (codes-are j l)) in
         let last : startOf p k codes m ≡ cells p k codes = start-last p k codes in
-        let first : runs (cellsBut p at grouped grouped (λ j. false)) m ≡ held codes (cells p k codes) =
+        let first : joined (cellsBut p at grouped grouped (λ j. false)) m ≡ held codes (cells p k codes) =
         cells-are refl g m (omega arith) ∙ ap (held codes) last in
-        let second : runs (cellsBut p at grouped paired (λ j. false)) m ≡ held schedules (cells p k codes) =
+        let second : joined (cellsBut p at grouped scheduled (λ j. false)) m ≡ held schedules (cells p k codes) =
         cells-are (d .parallel) h m (omega arith) ∙ ap (held schedules) last in
         is
         ∙ rw (starts, multipliers, first, second, d .cells-are)
