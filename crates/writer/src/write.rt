@@ -132,7 +132,7 @@ fn write_two(
     words[3 + n + j] = q;
 }
 
-// Writes the pairs of one block from `start` on, where its cells serve first as marks for the search of its multiplier, and the multiplier at j.
+// Writes the pairs of one block from `start` on, where its cells are first the scratch buffer of the search for its multiplier, and the multiplier at j.
 fn write_block(
     p: u32,
     block: &[u32],

@@ -97,7 +97,7 @@ pub record Writable (p k c : ℕ) (codes schedules : List ℕ) : Type 0 where
   pub cells-are : c ≡ cells p k codes
   pub parallel : length schedules ≡ length codes
 
--- room to work in: where the groups start, the groups, and the blocks that are listed
+-- scratch buffers for n codes: where the groups start, the groups, and the blocks that are listed
 pub record Scratch (n : ℕ) (at grouped scheduled lists : List ℕ) : Type 0 where
   pub at-room : n < length at
   pub grouped-room : (n ≤ length grouped) × (n ≤ length scheduled)
