@@ -14,8 +14,8 @@ use Rattle.table.proofs.Contents.{needed-is, table-length}
 use Rattle.search.specs.code.Searchable.{Searchable}
 use Rattle.table.specs.Limits.{room}
 use Rattle.search.specs.code.Blocks.{LeastBlocks, Blocked}
-use Rattle.writer.specs.code.Grouping.{Blocks, Loads}
-use Rattle.writer.specs.code.Writing.{Writable, Room}
+use Rattle.writer.specs.code.Grouping.{BlockOfEach, Loads}
+use Rattle.writer.specs.code.Writing.{Writable, Scratch}
 use Rattle.builder.specs.code.Valid.{ValidBuilt}
 
 module _ {p k c : ℕ} {codes : List ℕ} (s : Searchable p codes) (f : LeastBlocks p codes k c) where
@@ -72,7 +72,7 @@ module _ {p k c : ℕ} {codes : List ℕ} (s : Searchable p codes) (f : LeastBlo
 -- ---- what the search for k leaves
 
 module _ {p k : ℕ} {codes blocks counts : List ℕ} (b : Blocked p k codes blocks counts) where
-  pub blocked-blocks : length codes ≤ room → length blocks ≡ length codes → Blocks p k codes blocks
+  pub blocked-blocks : length codes ≤ room → length blocks ≡ length codes → BlockOfEach p k codes blocks
   blocked-blocks few same = record { few = few; each = omega arith; blocks-are = b .blocks-are }
 
   pub blocked-loads : (rest : List ℕ) → length counts ≡ length codes → Loads p k codes (counts ++ rest)
@@ -82,12 +82,12 @@ module _ {p k : ℕ} {codes blocks counts : List ℕ} (b : Blocked p k codes blo
 -- ---- room to work in
 
 -- room for m codes is room for fewer
-pub room-for :
-    {n m : ℕ} (at grouped paired lists : List ℕ) → n ≤ m → length at ≡ m + 1 → (length grouped ≡ m) × (length paired ≡ m) → length lists ≡ 3 * m
-    → Room n at grouped paired lists
-room-for at grouped paired lists few at-is (grouped-is, paired-is) lists-are =
+pub scratch-for :
+    {n m : ℕ} (at grouped scheduled lists : List ℕ) → n ≤ m → length at ≡ m + 1 → (length grouped ≡ m) × (length scheduled ≡ m) → length lists ≡ 3 * m
+    → Scratch n at grouped scheduled lists
+scratch-for at grouped scheduled lists few at-is (grouped-is, scheduled-is) lists-are =
     record {
       at-room = omega (arith, at-is, few);
-      grouped-room = (omega (arith, grouped-is, few), omega (arith, paired-is, few));
+      grouped-room = (omega (arith, grouped-is, few), omega (arith, scheduled-is, few));
       listed-room = omega (arith, lists-are, few);
     }

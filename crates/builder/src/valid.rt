@@ -2,7 +2,7 @@
 ghost use mathlib.Core.Path.{_≡_};
 ghost use lib.ListN.{length};
 ghost use Rattle.search.specs.code.Searchable.{Searchable};
-ghost use Rattle.writer.specs.code.Writing.{Room};
+ghost use Rattle.writer.specs.code.Writing.{Scratch};
 ghost use Rattle.builder.specs.code.Valid.{ValidBuilt};
 use table::limits::ROOM;
 use writer::write::write_table;
@@ -16,13 +16,13 @@ fn build_with(
     blocks: &mut [u32],
     at: &mut [u32],
     grouped: &mut [u32],
-    paired: &mut [u32],
+    scheduled: &mut [u32],
     lists: &mut [u16],
     words: &mut [u32],
 ) -> u32
     requires { ⌜ Searchable p (now codes) ⌝ }
     requires { ⌜ (length (now schedules) ≡ length (now codes)) × (length (now blocks) ≡ length (now codes)) ⌝ }
-    requires { ⌜ Room (length (now codes)) (now at) (now grouped) (now paired) (now lists) ⌝ }
+    requires { ⌜ Scratch (length (now codes)) (now at) (now grouped) (now scheduled) (now lists) ⌝ }
     ensures { λ r. ⌜ ValidBuilt p (now (codes .entry)) (now (schedules .entry)) (now (words .entry)) r (now (words .exit)) ⌝ }
 {
     let n = codes.len();
@@ -44,7 +44,7 @@ fn build_with(
         blocks,
         at,
         grouped,
-        paired,
+        scheduled,
         lists,
         &mut words[..total],
     );
@@ -62,7 +62,7 @@ pub(crate) fn build_valid(p: u32, codes: &[u32], schedules: &[u32], words: &mut 
         let mut blocks = [0u32; 32];
         let mut at = [0u32; 33];
         let mut grouped = [0u32; 32];
-        let mut paired = [0u32; 32];
+        let mut scheduled = [0u32; 32];
         let mut lists = [0u16; 96];
         return build_with(
             p,
@@ -71,7 +71,7 @@ pub(crate) fn build_valid(p: u32, codes: &[u32], schedules: &[u32], words: &mut 
             &mut blocks[..n],
             &mut at,
             &mut grouped,
-            &mut paired,
+            &mut scheduled,
             &mut lists,
             words,
         );
@@ -80,7 +80,7 @@ pub(crate) fn build_valid(p: u32, codes: &[u32], schedules: &[u32], words: &mut 
         let mut blocks = [0u32; 256];
         let mut at = [0u32; 257];
         let mut grouped = [0u32; 256];
-        let mut paired = [0u32; 256];
+        let mut scheduled = [0u32; 256];
         let mut lists = [0u16; 768];
         return build_with(
             p,
@@ -89,7 +89,7 @@ pub(crate) fn build_valid(p: u32, codes: &[u32], schedules: &[u32], words: &mut 
             &mut blocks[..n],
             &mut at,
             &mut grouped,
-            &mut paired,
+            &mut scheduled,
             &mut lists,
             words,
         );
@@ -97,7 +97,7 @@ pub(crate) fn build_valid(p: u32, codes: &[u32], schedules: &[u32], words: &mut 
     let mut blocks = [0u32; ROOM];
     let mut at = [0u32; ROOM + 1];
     let mut grouped = [0u32; ROOM];
-    let mut paired = [0u32; ROOM];
+    let mut scheduled = [0u32; ROOM];
     let mut lists = [0u16; 3 * ROOM];
     build_with(
         p,
@@ -106,7 +106,7 @@ pub(crate) fn build_valid(p: u32, codes: &[u32], schedules: &[u32], words: &mut 
         &mut blocks[..n],
         &mut at,
         &mut grouped,
-        &mut paired,
+        &mut scheduled,
         &mut lists,
         words,
     )

@@ -16,13 +16,15 @@ use Rattle.hash.proofs.Indicators.{indicator, indicator-eq, indicator-ne}
 use Rattle.hash.proofs.Sums.{sum-ext, sum-add, sum-const, sum-one}
 use Rattle.hash.proofs.Counting.{hash-lt, load-members, sum-load}
 use Rattle.hash.proofs.Members.{codes-tail, members-codes}
-use Rattle.table.specs.TwoLevel.{tabulate, startOf, heldIn}
+use Rattle.table.specs.Pairs.{paired, valueWhere}
+use Rattle.table.specs.Words.{ownCell}
+use Rattle.table.specs.TwoLevel.{tabulate, startOf, heldAt}
 use Rattle.table.proofs.Front.{sizeOf, blockQ, start-last, Fronted}
+use Rattle.table.proofs.Held.{held-here, held-later}
 use Rattle.table.proofs.Own.{block-apart}
 use Rattle.audit.specs.Check.{codesIn}
 use Rattle.audit.proofs.Counting.{codes-append}
-use Rattle.search.specs.code.Placed.{heldBy}
-use Rattle.search.proofs.PlacedLaws.{heldBy-here, heldBy-later, heldBy-none}
+use Rattle.search.proofs.PlacedLaws.{held-unloaded}
 use Rattle.search.proofs.BlockCells.{block-codes}
 
 -- a cell counts where it holds a code
@@ -37,31 +39,31 @@ codes-tabulate f (suc n) = omega (arith, codes-append (tabulate f n) (f n ∷ []
 -- one code more fills one cell more
 full-more :
     (p q w a : ℕ) (block : List ℕ) (t : ℕ) → 0 < a → load p q w (hashOf p q w a) block ≡ 0
-    → full (heldBy p q w (a ∷ block) (a ∷ block) t) ≡ indicator (eqb (hashOf p q w a) t) + full (heldBy p q w block block t)
+    → full (heldAt (hashOf p q w) (a ∷ block) (a ∷ block) t) ≡ indicator (eqb (hashOf p q w a) t) + full (heldAt (hashOf p q w) block block t)
 full-more p q w a block t pos none =
     elim (ℕ-discrete (hashOf p q w a) t) [
       | yes e ↦
           omega (
             arith,
-            ap full (heldBy-here p q w a a block block t e),
+            ap full (held-here (hashOf p q w) a a block block t e),
             ap {B = ℕ} (λ (b : Bool). cond b 0 1) (ne-eqb a 0 (λ z. omega arith)),
             indicator-eq (hashOf p q w a) t e,
-            ap full (heldBy-none p q w block block t (rw e at none)),
+            ap full (held-unloaded p q w block block t (rw e at none)),
           )
-      | no ne ↦ omega (arith, ap full (heldBy-later p q w a a block block t ne), indicator-ne (hashOf p q w a) t ne)
+      | no ne ↦ omega (arith, ap full (held-later (hashOf p q w) a a block block t ne), indicator-ne (hashOf p q w a) t ne)
     ]
 
 full-all :
     (p q w : ℕ) (block : List ℕ) → 0 < w → Codes p block → together p q w block ≡ 0
-    → sum (λ t. full (heldBy p q w block block t)) w ≡ length block
-unfolding together heldBy
+    → sum (λ t. full (heldAt (hashOf p q w) block block t)) w ≡ length block
+unfolding together heldAt paired valueWhere
 full-all p q w [] pos valid none = omega (arith, sum-const 0 w)
 full-all p q w (a ∷ block) pos valid none =
     omega (
       arith,
-      sum-ext (λ t. full (heldBy p q w (a ∷ block) (a ∷ block) t)) (λ t. indicator (eqb (hashOf p q w a) t) + full (heldBy p q w block block t)) w
+      sum-ext (λ t. full (heldAt (hashOf p q w) (a ∷ block) (a ∷ block) t)) (λ t. indicator (eqb (hashOf p q w a) t) + full (heldAt (hashOf p q w) block block t)) w
           (λ t l. full-more p q w a block t (valid .positive 0 (omega arith)) (omega arith)),
-      sum-add (λ t. indicator (eqb (hashOf p q w a) t)) (λ t. full (heldBy p q w block block t)) w,
+      sum-add (λ t. indicator (eqb (hashOf p q w a) t)) (λ t. full (heldAt (hashOf p q w) block block t)) w,
       sum-one (hashOf p q w a) w (hash-lt p q w a pos),
       full-all p q w block pos (codes-tail valid) (omega arith),
     )
@@ -71,7 +73,7 @@ module _ {p : ℕ} (prime : Prime p) (k : ℕ) (codes : List ℕ) (valid : Codes
   pub block-full :
       (j : ℕ)
       → let block = members p k (length codes) j codes in
-      codesIn (tabulate (heldBy p (blockQ p k codes j) (sizeOf p k codes j) block block) (sizeOf p k codes j))
+      codesIn (tabulate (heldAt (hashOf p (blockQ p k codes j) (sizeOf p k codes j)) block block) (sizeOf p k codes j))
       ≡ load p k (length codes) j codes
   unfolding tabulate codesIn
   block-full j =
@@ -79,10 +81,10 @@ module _ {p : ℕ} (prime : Prime p) (k : ℕ) (codes : List ℕ) (valid : Codes
       let block : List ℕ = members p k (length codes) j codes in
       elim (ℕ-discrete m 0) [
         | yes none ↦
-            ap (λ (l : ℕ). codesIn (tabulate (heldBy p (blockQ p k codes j) (m * m) block block) (l * l))) none ∙ sym none
+            ap (λ (l : ℕ). codesIn (tabulate (heldAt (hashOf p (blockQ p k codes j) (m * m)) block block) (l * l))) none ∙ sym none
         | no some ↦
             let pos : 0 < m = omega arith in
-            codes-tabulate (heldBy p (blockQ p k codes j) (m * m) block block) (m * m)
+            codes-tabulate (heldAt (hashOf p (blockQ p k codes j) (m * m)) block block) (m * m)
             ∙ full-all p (blockQ p k codes j) (m * m) block (mul-pos pos pos)
             (members-codes p k (length codes) j codes valid)
             (block-apart prime k codes valid j)
@@ -93,19 +95,19 @@ module _ {p : ℕ} (prime : Prime p) (k : ℕ) (codes : List ℕ) (valid : Codes
   module _ (words : List ℕ) (f : Fronted p k codes words) where
     blocks-full :
         (j : ℕ) → j ≤ length codes
-        → codesIn (tabulate (heldIn p words codes codes) (startOf p k codes j)) ≡ sum (λ t. load p k (length codes) t codes) j
+        → codesIn (tabulate (heldAt (ownCell p words) codes codes) (startOf p k codes j)) ≡ sum (λ t. load p k (length codes) t codes) j
     unfolding sum startOf tabulate codesIn
     blocks-full zero h = refl
     blocks-full (suc j) h =
-        let before : List ℕ = tabulate (heldIn p words codes codes) (startOf p k codes j) in
+        let before : List ℕ = tabulate (heldAt (ownCell p words) codes codes) (startOf p k codes j) in
         let block : List ℕ = members p k (length codes) j codes in
-        let these : List ℕ = tabulate (heldBy p (blockQ p k codes j) (sizeOf p k codes j) block block) (sizeOf p k codes j) in
+        let these : List ℕ = tabulate (heldAt (hashOf p (blockQ p k codes j) (sizeOf p k codes j)) block block) (sizeOf p k codes j) in
         omega (arith, ap codesIn (block-codes f j h), codes-append before these, blocks-full j (omega arith), block-full j)
 
-    pub table-full : codesIn (tabulate (heldIn p words codes codes) (cells p k codes)) ≡ length codes
+    pub table-full : codesIn (tabulate (heldAt (ownCell p words) codes codes) (cells p k codes)) ≡ length codes
     unfolding sum
     table-full =
-        ap (λ (c : ℕ). codesIn (tabulate (heldIn p words codes codes) c)) (sym (start-last p k codes))
+        ap (λ (c : ℕ). codesIn (tabulate (heldAt (ownCell p words) codes codes) c)) (sym (start-last p k codes))
         ∙ blocks-full (length codes) (omega arith)
         ∙ elim (ℕ-discrete (length codes) 0) [
           | yes none ↦ ap (sum (λ t. load p k (length codes) t codes)) none ∙ sym none

@@ -12,7 +12,7 @@ use Rattle.hash.specs.Theorems.{Prime}
 use Rattle.hash.proofs.Counting.{hash-lt}
 use Rattle.hash.proofs.Members.{members-codes}
 use Rattle.table.specs.Words.{codeCount, cellCount, blockStart, blockEnd, blockMultiplier, cellCode, cellSchedule, blockOf, ownCell}
-use Rattle.table.specs.TwoLevel.{tabulate, blocksMultiplier, cellsMultiplier, startOf, heldIn, cellsOf}
+use Rattle.table.specs.TwoLevel.{tabulate, blocksMultiplier, cellsMultiplier, startOf, heldAt, cellsOf}
 use Rattle.table.proofs.Tabulate.{tabulate-ext, part-tabulate}
 use Rattle.table.proofs.Front.{sizeOf, blockQ, start-first, start-next, start-rises, start-last, Fronted, block-is, size-is}
 use Rattle.table.proofs.Chosen.{cells-least, blocks-range, few-cells, no-cells}
@@ -20,7 +20,6 @@ use Rattle.table.proofs.Own.{listed-load}
 use Rattle.table.proofs.Contents.{Tabled, Filled, Empty, filled-or-empty, cellsOf-is, needed-is}
 use Rattle.audit.specs.Check.{codesIn, blockCodes, allCodes}
 use Rattle.audit.specs.WellFormed.{WellFormed}
-use Rattle.search.specs.code.Placed.{heldBy}
 use Rattle.search.proofs.BlockCells.{held-codes}
 use Rattle.demands.specs.Lists.{Valid}
 use Rattle.demands.proofs.BuildingCells.{block-full, table-full}
@@ -50,7 +49,7 @@ module _
     code-at :
         (j i : ℕ) → j < length codes → i < sizeOf p k codes j
         → let block = members p k (length codes) j codes in
-        getD words (3 + 2 * codeCount words + blockStart words j + i) 0 ≡ heldBy p (blockQ p k codes j) (sizeOf p k codes j) block block i
+        getD words (3 + 2 * codeCount words + blockStart words j + i) 0 ≡ heldAt (hashOf p (blockQ p k codes j) (sizeOf p k codes j)) block block i
     code-at j i h l =
         ap (λ (m : ℕ). getD words m 0) (add-assoc (3 + 2 * codeCount words) (blockStart words j) i)
         ∙ ap (λ (s : ℕ). cellCode words (s + i)) (f .starts j h)
@@ -71,8 +70,8 @@ module _
         ap codesIn
         (part-tabulate words (3 + 2 * codeCount words) (cellCount words) (omega (arith, t .totals, t .whole))
         ∙ ap (tabulate (cellCode words)) (t .celled)
-        ∙ tabulate-ext (cellCode words) (heldIn p words codes codes) (cellsOf p codes) (t .code-held)
-        ∙ ap (tabulate (heldIn p words codes codes)) (cellsOf-is p codes))
+        ∙ tabulate-ext (cellCode words) (heldAt (ownCell p words) codes codes) (cellsOf p codes) (t .code-held)
+        ∙ ap (tabulate (heldAt (ownCell p words) codes codes)) (cellsOf-is p codes))
         ∙ table-full prime k codes (valid .codes-valid) words f
         ∙ sym (f .counts)
 

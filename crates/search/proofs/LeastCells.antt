@@ -9,10 +9,10 @@ use borrow.Author.Tests.{eq-eqb, ne-eqb, eqb-true}
 use lib.ListN.{length, replicate, length-replicate}
 use Rattle.hash.specs.Hash.{hashOf, load, together}
 use Rattle.hash.specs.Theorems.{Least}
-use Rattle.table.specs.TwoLevel.{tabulate, cellsMultiplier}
+use Rattle.table.specs.Pairs.{paired, valueWhere}
+use Rattle.table.specs.TwoLevel.{tabulate, cellsMultiplier, heldAt}
 use Rattle.table.proofs.Tabulate.{tabulate-length}
 use Rattle.table.proofs.Chosen.{cells-least}
-use Rattle.search.specs.code.Placed.{heldBy}
 use Rattle.search.specs.code.Searchable.{Searchable}
 use Rattle.table.specs.Limits.{room}
 use Rattle.search.specs.code.Cells.{square, separates, filledBy, Unplaced, Placing, Tried, Separated}
@@ -37,7 +37,7 @@ module _ {p : ℕ} {block cells : List ℕ} (u : Unplaced p block cells) where
       let (none, filled) = placing-all h end in
       let e : separates p block q ≡ true =
       eq-eqb (together p q (square block) block) 0 (ap (λ (w : ℕ). together p q w block) (sym unplaced-square) ∙ none) in
-      record { answer = sym e; cells = rw e (filled ∙ ap (λ (w : ℕ). tabulate (heldBy p q w block block) w) unplaced-square) }
+      record { answer = sym e; cells = rw e (filled ∙ ap (λ (w : ℕ). tabulate (heldAt (hashOf p q w) block block) w) unplaced-square) }
 
   pub tried-stop :
       {q : ℕ} {new : List ℕ} → (together p q (length cells) block ≡ 0 → ⊥) → new ≡ replicate (length cells) 0
@@ -66,7 +66,7 @@ one-cell p q a = omega arith
 -- a block of one code, whatever is listed with it, or of none
 pub cells-one :
     {p a : ℕ} → Searchable p (a ∷ []) → (cellsMultiplier p (a ∷ []) ≡ 1) × ((v : ℕ) → filledBy p 1 (a ∷ []) (v ∷ []) ≡ v ∷ [])
-unfolding cellsMultiplier together load tabulate heldBy
+unfolding cellsMultiplier together load tabulate heldAt paired valueWhere
 cells-one {p} {a} codes = (sym (trying-found (cells-start codes) refl), λ v. rw (one-cell p 1 a))
 
 pub cells-none : {p : ℕ} → Searchable p [] → cellsMultiplier p [] ≡ 1
@@ -102,7 +102,7 @@ module _ {p q : ℕ} {block old new : List ℕ} {r : Bool} (tried : Tried p q bl
     filled = tried .cells ∙ rw separating refl
 
     pub cells-sized : length new ≡ square block
-    cells-sized = ap length filled ∙ tabulate-length (heldBy p q (square block) block block) (square block)
+    cells-sized = ap length filled ∙ tabulate-length (heldAt (hashOf p q (square block)) block block) (square block)
 
     pub cells-filled : (w : ℕ) → w ≡ square block → Placing p q w block 0 new
     cells-filled w is =

@@ -1,4 +1,4 @@
--- A block's codes, tested from the last to the first for cells that are shared: the cells that are taken are the binary digits of one number.
+-- A block's codes, tested from the last to the first for cells that are shared: the cells taken are a bit set in one number.
 use Prim.Native.Nat.{ℕ, _+_, _-_, _^_, _<_, _≤_}
 use native.Mathlib.Decide.{ℕ-discrete}
 use native.Mathlib.Nat.{div-le-self}

@@ -1,4 +1,5 @@
-// The least multiplier k of a list: each k is tried by counting the codes of its blocks.
+// The least multiplier k of a list: each k is tried by counting the codes of its blocks. Theory: source 000, lemma 2, which is lemma 1 with n places for
+// n codes: some k below p gives fewer than 3n cells, so the search ends. The cells have the parity of n, so that fewer than 3n is at most 3n - 2.
 ghost use mathlib.Core.Path.{_≡_};
 ghost use lib.ListN.{length};
 ghost use Rattle.hash.specs.code.Contract.{Ready};
@@ -17,9 +18,9 @@ pub struct Multiplier {
     pub c: u32,
 }
 
-// The cells under k, or that they are more than 3n - 2, said as soon as it shows. A block that goes from m codes to m + 1 goes from
-// m × m cells to 2m + 1 more. The codes are taken from the last, as the definitions count them: each one against those after it. The block
-// of each code and the load of each block are left to whoever needs them next.
+// The cells under k, or an early exit once they are more than 3n - 2. A block that goes from m codes to m + 1 gets 2m + 1 cells more. The
+// codes are taken from the last, as the definitions count them: each one against those after it. `reciprocal` is the precomputed one of n. The block of
+// each code and the load of each block are left for the counting sort.
 fn count_cells(
     p: u32,
     k: u32,
@@ -52,7 +53,7 @@ fn count_cells(
 }
 
 // The least multiplier from 1 to p - 1 that keeps the cells at most 3n - 2, and the cells under it. A list of no code has k = 1 and no
-// cell. The search never gives up: some multiplier keeps the bound, so that the loop is left by its answer alone.
+// cell. The search never gives up: by the lemma the loop is left by its answer alone.
 pub fn blocks_multiplier(
     p: u32,
     codes: &[u32],

@@ -1,4 +1,6 @@
-// The least multiplier q of a block: each q is tried by placing the block's codes in its own cells, which serve as marks.
+// The least multiplier q of a block: each q is tried by placing the block's codes. Theory: source 000, lemma 3, which is lemma 1 with m * m places for
+// m codes: some q below p puts them in different cells, so the search ends. The cells taken are a bit set of one word for at most 8 codes. For more
+// the block's own cells, which are still all 0, are the scratch buffer.
 ghost use Prim.Native.Nat.{_<_, _≤_};
 ghost use mathlib.Core.Path.{_≡_};
 ghost use mathlib.Core.Bool.{cond};
@@ -48,7 +50,7 @@ fn place_block(p: u32, q: u32, reciprocal: u64, block: &[u32], cells: &mut [u32]
 }
 
 // The least multiplier from 1 to p - 1 that puts the codes of a block in different cells. They are placed in the cells, which are all 0 and come
-// back so. The search never gives up: some multiplier separates the codes, so that the loop is left by its answer alone.
+// back so. The search never gives up: by the lemma the loop is left by its answer alone.
 fn cells_multiplier(p: u32, reciprocal: u64, block: &[u32], cells: &mut [u32]) -> u32
     requires { ⌜ Unplaced p (now block) (now cells) ⌝ }
     requires { ⌜ (0 < length (now block)) × Ready p (length (now cells)) reciprocal ⌝ }
@@ -66,7 +68,7 @@ fn cells_multiplier(p: u32, reciprocal: u64, block: &[u32], cells: &mut [u32]) -
     q
 }
 
-// Whether q puts the codes of a block in different ones of w cells, told by a bit for each cell that is taken.
+// Whether q puts the codes of a block in different ones of w cells, branch-free: the cells taken are a bit set.
 fn apart(p: u32, q: u32, w: u32, reciprocal: u64, block: &[u32]) -> bool
     requires { ⌜ Codes p (now block) × ((q < p) × Ready p w reciprocal) ⌝ }
     requires { ⌜ w ≤ 64 ⌝ }
@@ -84,7 +86,7 @@ fn apart(p: u32, q: u32, w: u32, reciprocal: u64, block: &[u32]) -> bool
     shared == 0
 }
 
-// The same for a block of at most 8 codes, whose w cells are the bits of one word.
+// The least multiplier of a block of at most 8 codes: its w cells are a bit set of one word.
 fn few_multiplier(p: u32, w: u32, reciprocal: u64, block: &[u32]) -> u32
     requires { ⌜ Searchable p (now block) × (w ≡ square (now block)) ⌝ }
     requires { ⌜ (0 < length (now block)) × (length (now block) ≤ 8) ⌝ }
@@ -106,8 +108,8 @@ fn collide(p: u32, q: u32, a: u32, b: u32) -> bool
     hash::residue_below(p, q, a) % 4 == hash::residue_below(p, q, b) % 4
 }
 
-// The least multiplier of two codes: nearly all have one of the first three, which is worked out without a branch. The multiplier 1 leaves a code as it
-// is.
+// The least multiplier of two codes. Nearly all have one of the first three, which is found branch-free; the loop's test is seldom mispredicted. The
+// multiplier 1 leaves a code as it is.
 pub fn two_multiplier(p: u32, a: u32, b: u32) -> u32
     requires { ⌜ Searchable p (a ∷ b ∷ []) ⌝ }
     ensures { λ r. ⌜ Separated p (a ∷ b ∷ []) r ⌝ }
@@ -121,7 +123,8 @@ pub fn two_multiplier(p: u32, a: u32, b: u32) -> u32
     q
 }
 
-// The least multiplier of any block with a code. Its cells are all 0, may serve as marks, and come back as they were.
+// The least multiplier of any block with a code. Its cells, all 0, are the scratch buffer and come back as they were. `reciprocal` is the precomputed
+// one of their number.
 pub fn more_multiplier(p: u32, reciprocal: u64, block: &[u32], cells: &mut [u32]) -> u32
     requires { ⌜ Unplaced p (now block) (now cells) ⌝ }
     requires { ⌜ (0 < length (now block)) × Ready p (length (now cells)) reciprocal ⌝ }

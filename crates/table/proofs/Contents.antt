@@ -8,7 +8,7 @@ use lib.ListN.{length, getD, take, drop, length-append, take-append-drop}
 use Rattle.hash.specs.Hash.{cells, Codes}
 use Rattle.hash.specs.Theorems.{Prime}
 use Rattle.table.specs.Words.{codeCount, cellCount, totalOf, total, cellCode, cellSchedule, ownCell}
-use Rattle.table.specs.TwoLevel.{tabulate, blocksMultiplier, frontOf, frontWith, heldIn, tableWith, cellsOf, wordsNeeded, tableOf}
+use Rattle.table.specs.TwoLevel.{tabulate, blocksMultiplier, frontOf, frontWith, heldAt, tableWith, cellsOf, wordsNeeded, tableOf}
 use Rattle.table.proofs.Tabulate.{tabulate-length, tabulate-head, tabulate-past}
 use Rattle.table.proofs.Front.{Fronted, fronted, front-length, front-past, frontOf-fronted, own-is}
 use Rattle.table.proofs.Held.{Apart, held-same, held-own, held-none, holder}
@@ -18,8 +18,8 @@ use Rattle.table.proofs.Own.{listed-own-lt, listed-apart}
 pub record Tabled (p : ℕ) (codes schedules words : List ℕ) : Type 0 where
   pub front : Fronted p (blocksMultiplier p codes) codes words
   pub celled : cellCount words ≡ cellsOf p codes
-  pub code-held : (i : ℕ) → i < cellsOf p codes → cellCode words i ≡ heldIn p words codes codes i
-  pub schedule-held : (i : ℕ) → i < cellsOf p codes → cellSchedule words i ≡ heldIn p words codes schedules i
+  pub code-held : (i : ℕ) → i < cellsOf p codes → cellCode words i ≡ heldAt (ownCell p words) codes codes i
+  pub schedule-held : (i : ℕ) → i < cellsOf p codes → cellSchedule words i ≡ heldAt (ownCell p words) codes schedules i
   pub totals : total words ≡ wordsNeeded p codes
   pub whole : wordsNeeded p codes ≤ length words
 
@@ -31,16 +31,16 @@ module _ (p : ℕ) (front : List ℕ) (c : ℕ) (codes schedules : List ℕ) whe
   with-length =
       omega (
         arith,
-        length-append front (tabulate (heldIn p front codes codes) c ++ tabulate (heldIn p front codes schedules) c),
-        length-append (tabulate (heldIn p front codes codes) c) (tabulate (heldIn p front codes schedules) c),
-        tabulate-length (heldIn p front codes codes) c,
-        tabulate-length (heldIn p front codes schedules) c,
+        length-append front (tabulate (heldAt (ownCell p front) codes codes) c ++ tabulate (heldAt (ownCell p front) codes schedules) c),
+        length-append (tabulate (heldAt (ownCell p front) codes codes) c) (tabulate (heldAt (ownCell p front) codes schedules) c),
+        tabulate-length (heldAt (ownCell p front) codes codes) c,
+        tabulate-length (heldAt (ownCell p front) codes schedules) c,
       )
 
   with-parts :
       (rest : List ℕ)
       → tableWith p front c codes schedules ++ rest
-      ≡ front ++ (tabulate (heldIn p front codes codes) c ++ (tabulate (heldIn p front codes schedules) c ++ rest))
+      ≡ front ++ (tabulate (heldAt (ownCell p front) codes codes) c ++ (tabulate (heldAt (ownCell p front) codes schedules) c ++ rest))
   unfolding tableWith
   with-parts rest = simp append-assoc
 
@@ -100,7 +100,7 @@ module _ (p : ℕ) (codes schedules : List ℕ) where
 
   module _ (rest : List ℕ) where
     abbrev held : List ℕ → ℕ → ℕ
-    held values = heldIn p (frontOf p codes) codes values
+    held values = heldAt (ownCell p (frontOf p codes)) codes values
 
     abbrev tableRuns : List ℕ
     tableRuns = runs p (blocksMultiplier p codes) codes (held codes) (held schedules) (cellsOf p codes) rest
@@ -119,9 +119,9 @@ module _ (p : ℕ) (codes schedules : List ℕ) where
           front = f;
           celled = c;
           code-held = λ i h. first-run p _ codes (held codes) (held schedules) (cellsOf p codes) rest (codeCount tableRuns) i (f .counts) h
-              ∙ held-same p (frontOf p codes) tableRuns codes codes i (λ x l. own-front p codes tableRuns f (omega arith) (getD codes x 0));
+              ∙ held-same (ownCell p (frontOf p codes)) (ownCell p tableRuns) codes codes i (λ x l. own-front p codes tableRuns f (omega arith) (getD codes x 0));
           schedule-held = λ i h. second-run p _ codes (held codes) (held schedules) (cellsOf p codes) rest (codeCount tableRuns) (cellCount tableRuns) i (f .counts) c h
-              ∙ held-same p (frontOf p codes) tableRuns codes schedules i (λ x l. own-front p codes tableRuns f (omega arith) (getD codes x 0));
+              ∙ held-same (ownCell p (frontOf p codes)) (ownCell p tableRuns) codes schedules i (λ x l. own-front p codes tableRuns f (omega arith) (getD codes x 0));
           totals = omega (arith, f .counts, c, needed-is p codes);
           whole = omega (arith, table-length, ap length table-runs, length-append (tableOf p codes schedules) rest);
         }
@@ -152,24 +152,24 @@ module _
     -- the cell of a listed code
     pub filled-own : (x : ℕ) → x < length codes → Filled p codes schedules words (ownCell p words (getD codes x 0)) x
     filled-own x h =
-        let apart : Apart p words codes = listed-apart prime (blocksMultiplier p codes) codes valid words (t .front) in
+        let apart : Apart (ownCell p words) codes = listed-apart prime (blocksMultiplier p codes) codes valid words (t .front) in
         let l : ownCell p words (getD codes x 0) < cellsOf p codes =
         rw (cellsOf-is p codes) (listed-own-lt prime (blocksMultiplier p codes) codes valid words (t .front) x h) in
         record {
           in-list = h;
           its-own = refl;
-          code = t .code-held _ l ∙ held-own p words codes codes refl apart x h;
-          schedule = t .schedule-held _ l ∙ held-own p words codes schedules same apart x h;
+          code = t .code-held _ l ∙ held-own (ownCell p words) codes codes refl apart x h;
+          schedule = t .schedule-held _ l ∙ held-own (ownCell p words) codes schedules same apart x h;
         }
 
     pub filled-or-empty : (i : ℕ) → i < cellsOf p codes → ((x : ℕ) × Filled p codes schedules words i x) ⊎ Empty words i
     filled-or-empty i h =
-        elim (holder p words codes codes i refl) [
+        elim (holder (ownCell p words) codes codes i refl) [
           | inl r ↦ inl (r .index, rw (r .its-own) at (filled-own (r .index) (r .in-list)))
           | inr none ↦
               inr
               (record {
-                no-code = t .code-held i h ∙ held-none p words codes codes i none;
-                no-schedule = t .schedule-held i h ∙ held-none p words codes schedules i none;
+                no-code = t .code-held i h ∙ held-none (ownCell p words) codes codes i none;
+                no-schedule = t .schedule-held i h ∙ held-none (ownCell p words) codes schedules i none;
               })
         ]

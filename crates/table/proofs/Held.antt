@@ -1,6 +1,6 @@
--- What a cell holds: the value listed with the first code whose own cell it is. Where own cells differ, that is the only such code,
--- so the cells are what remains of c zeros when each value in turn is stored at its code's own cell.
-use Prim.Native.Nat.{ℕ, zero, suc, _<_, _≤_}
+-- What a cell holds, where each code has a cell: the value listed with the first code whose cell it is. Where the codes' cells differ, that
+-- is the only such code. The cells are what remains of zeros when each value in turn is stored in its code's cell.
+use Prim.Native.Nat.{ℕ, zero, suc, _<_}
 use native.Mathlib.Decide.{ℕ-discrete, decLt}
 use native.Mathlib.Omega.{arith}
 use mathlib.Core.Bool.{cond}
@@ -8,17 +8,16 @@ use mathlib.Core.List.{List, [], _∷_}
 use mathlib.Core.Logic.{_⊎_, inl, inr}
 use mathlib.Core.Path.{_≡_, refl, sym, ap, ap₂, _∙_}
 use lib.Dec.{eqb}
-use lib.ListN.{length, getD, take, set, replicate}
-use lib.Seq.{getD-take, length-take-le, take-all}
+use lib.ListN.{length, getD, set, replicate}
 use borrow.Author.Tests.{eq-eqb, ne-eqb}
-use Rattle.table.specs.Words.{ownCell}
-use Rattle.table.specs.TwoLevel.{tabulate, heldIn}
+use Rattle.table.specs.Pairs.{paired, valueWhere}
+use Rattle.table.specs.TwoLevel.{tabulate, heldAt}
 use Rattle.table.proofs.Tabulate.{tabulate-zeros, tabulate-set}
 
--- different codes of a list have different own cells
-abbrev pub Apart : ℕ → List ℕ → List ℕ → Type 0
-Apart p front codes =
-    (x y : ℕ) → x < y → y < length codes → ownCell p front (getD codes x 0) ≡ ownCell p front (getD codes y 0) → ⊥
+-- different codes of a list have different cells
+abbrev pub Apart : (ℕ → ℕ) → List ℕ → Type 0
+Apart cell codes =
+    (x y : ℕ) → x < y → y < length codes → cell (getD codes x 0) ≡ cell (getD codes y 0) → ⊥
 
 -- numbers f 0 to f (n - 1) that differ have their index from their value
 pub same-index :
@@ -33,56 +32,56 @@ same-index f n apart x y hx hy e =
           ]
     ]
 
--- the code with index x, of those whose own cell is i the first, is listed with what the cell holds
-pub record Holder (p : ℕ) (front codes values : List ℕ) (i : ℕ) : Type 0 where
+-- the code with this index, of those whose cell is i the first, is listed with what the cell holds
+pub record Holder (cell : ℕ → ℕ) (codes values : List ℕ) (i : ℕ) : Type 0 where
   pub index : ℕ
   pub in-list : index < length codes
-  pub its-own : ownCell p front (getD codes index 0) ≡ i
-  pub holds : heldIn p front codes values i ≡ getD values index 0
+  pub its-own : cell (getD codes index 0) ≡ i
+  pub holds : heldAt cell codes values i ≡ getD values index 0
 
--- only the own cells of the codes matter
+-- only the codes' cells matter
 pub held-same :
-    (p : ℕ) (front front′ codes values : List ℕ) (i : ℕ)
-    → ((x : ℕ) → x < length codes → ownCell p front (getD codes x 0) ≡ ownCell p front′ (getD codes x 0))
-    → heldIn p front codes values i ≡ heldIn p front′ codes values i
-unfolding heldIn
-held-same p front front′ [] values i same = refl
-held-same p front front′ (a ∷ codes) [] i same = refl
-held-same p front front′ (a ∷ codes) (v ∷ values) i same =
+    (cell cell′ : ℕ → ℕ) (codes values : List ℕ) (i : ℕ)
+    → ((x : ℕ) → x < length codes → cell (getD codes x 0) ≡ cell′ (getD codes x 0))
+    → heldAt cell codes values i ≡ heldAt cell′ codes values i
+unfolding heldAt paired valueWhere
+held-same cell cell′ [] values i same = refl
+held-same cell cell′ (a ∷ codes) [] i same = refl
+held-same cell cell′ (a ∷ codes) (v ∷ values) i same =
     ap₂ (λ (o r : ℕ). cond (eqb o i) v r) (same 0 (omega arith))
-    (held-same p front front′ codes values i (λ x h. same (suc x) (omega arith)))
+    (held-same cell cell′ codes values i (λ x h. same (suc x) (omega arith)))
 
-module _ (p : ℕ) (front : List ℕ) where
+module _ (cell : ℕ → ℕ) where
   pub held-here :
-      (a v : ℕ) (codes values : List ℕ) (i : ℕ) → ownCell p front a ≡ i → heldIn p front (a ∷ codes) (v ∷ values) i ≡ v
-  unfolding heldIn
-  held-here a v codes values i e = rw (eq-eqb (ownCell p front a) i e)
+      (a v : ℕ) (codes values : List ℕ) (i : ℕ) → cell a ≡ i → heldAt cell (a ∷ codes) (v ∷ values) i ≡ v
+  unfolding heldAt paired valueWhere
+  held-here a v codes values i e = rw (eq-eqb (cell a) i e)
 
   pub held-later :
-      (a v : ℕ) (codes values : List ℕ) (i : ℕ) → (ownCell p front a ≡ i → ⊥)
-      → heldIn p front (a ∷ codes) (v ∷ values) i ≡ heldIn p front codes values i
-  unfolding heldIn
-  held-later a v codes values i ne = rw (ne-eqb (ownCell p front a) i ne)
+      (a v : ℕ) (codes values : List ℕ) (i : ℕ) → (cell a ≡ i → ⊥)
+      → heldAt cell (a ∷ codes) (v ∷ values) i ≡ heldAt cell codes values i
+  unfolding heldAt paired valueWhere
+  held-later a v codes values i ne = rw (ne-eqb (cell a) i ne)
 
-  -- nobody's own cell is empty
+  -- nobody's cell is empty
   pub held-none :
-      (codes values : List ℕ) (i : ℕ) → ((x : ℕ) → x < length codes → ownCell p front (getD codes x 0) ≡ i → ⊥)
-      → heldIn p front codes values i ≡ 0
-  unfolding heldIn
+      (codes values : List ℕ) (i : ℕ) → ((x : ℕ) → x < length codes → cell (getD codes x 0) ≡ i → ⊥)
+      → heldAt cell codes values i ≡ 0
+  unfolding heldAt paired valueWhere
   held-none [] values i none = refl
   held-none (a ∷ codes) [] i none = refl
   held-none (a ∷ codes) (v ∷ values) i none =
       held-later a v codes values i (none 0 (omega arith))
       ∙ held-none codes values i (λ x h. none (suc x) (omega arith))
 
-  -- a cell has a holder, or it is nobody's own
+  -- a cell has a holder, or it is nobody's
   pub holder :
       (codes values : List ℕ) (i : ℕ) → length values ≡ length codes
-      → Holder p front codes values i ⊎ ((x : ℕ) → x < length codes → ownCell p front (getD codes x 0) ≡ i → ⊥)
+      → Holder cell codes values i ⊎ ((x : ℕ) → x < length codes → cell (getD codes x 0) ≡ i → ⊥)
   holder [] values i same = inr (λ x h e. omega arith)
   holder (a ∷ codes) [] i same = absurd (omega arith)
   holder (a ∷ codes) (v ∷ values) i same =
-      elim (ℕ-discrete (ownCell p front a) i) [
+      elim (ℕ-discrete (cell a) i) [
         | yes e ↦ inl (record { index = 0; in-list = omega arith; its-own = e; holds = held-here a v codes values i e })
         | no ne ↦
             elim (holder codes values i (omega arith)) [
@@ -99,75 +98,41 @@ module _ (p : ℕ) (front : List ℕ) where
       ]
     where
       later :
-          (a : ℕ) (codes : List ℕ) (i : ℕ) → (ownCell p front a ≡ i → ⊥)
-          → ((x : ℕ) → x < length codes → ownCell p front (getD codes x 0) ≡ i → ⊥)
-          → (x : ℕ) → x < suc (length codes) → ownCell p front (getD (a ∷ codes) x 0) ≡ i → ⊥
+          (a : ℕ) (codes : List ℕ) (i : ℕ) → (cell a ≡ i → ⊥)
+          → ((x : ℕ) → x < length codes → cell (getD codes x 0) ≡ i → ⊥)
+          → (x : ℕ) → x < suc (length codes) → cell (getD (a ∷ codes) x 0) ≡ i → ⊥
       later a codes i ne none zero h e = ne e
       later a codes i ne none (suc x) h e = none x (omega arith) e
 
-  -- so at its own cell each code's value is held
+  -- so in its cell each code's value is held
   pub held-own :
-      (codes values : List ℕ) → length values ≡ length codes → Apart p front codes → (x : ℕ) → x < length codes
-      → heldIn p front codes values (ownCell p front (getD codes x 0)) ≡ getD values x 0
+      (codes values : List ℕ) → length values ≡ length codes → Apart cell codes → (x : ℕ) → x < length codes
+      → heldAt cell codes values (cell (getD codes x 0)) ≡ getD values x 0
   held-own codes values same apart x h =
-      elim (holder codes values (ownCell p front (getD codes x 0)) same) [
+      elim (holder codes values (cell (getD codes x 0)) same) [
         | inl r ↦
             r .holds
             ∙ ap (λ (y : ℕ). getD values y 0)
-            (same-index (λ y. ownCell p front (getD codes y 0)) (length codes) apart (r .index) x (r .in-list) h (r .its-own))
+            (same-index (λ y. cell (getD codes y 0)) (length codes) apart (r .index) x (r .in-list) h (r .its-own))
         | inr none ↦ absurd (none x h refl)
       ]
 
-  -- ---- storing values one by one
+  -- all w cells: of no code, and with one code more, whose value is stored in its cell
+  pub held-start : (w : ℕ) (values : List ℕ) → tabulate (heldAt cell [] values) w ≡ replicate w 0
+  unfolding heldAt paired valueWhere
+  held-start w values = sym (tabulate-zeros (heldAt cell [] values) w (λ t l. refl))
 
-  -- the pair with index x is seen at its own cell only
-  held-other :
-      (codes values : List ℕ) (x i : ℕ) → (ownCell p front (getD codes x 0) ≡ i → ⊥) → x < length codes
-      → heldIn p front (take (suc x) codes) (take (suc x) values) i ≡ heldIn p front (take x codes) (take x values) i
-  unfolding heldIn
-  held-other [] values x i ne h = absurd (omega arith)
-  held-other (a ∷ codes) [] zero i ne h = refl
-  held-other (a ∷ codes) [] (suc x) i ne h = refl
-  held-other (a ∷ codes) (v ∷ values) zero i ne h = held-later a v [] [] i ne
-  held-other (a ∷ codes) (v ∷ values) (suc x) i ne h =
-      ap (λ (r : ℕ). cond (eqb (ownCell p front a) i) v r) (held-other codes values x i ne (omega arith))
+  module _ (w a v : ℕ) (codes values : List ℕ) (t : ℕ) (own : t ≡ cell a) (l : t < w) where
+    pub held-put : set (tabulate (heldAt cell codes values) w) t v ≡ tabulate (heldAt cell (a ∷ codes) (v ∷ values)) w
+    held-put =
+        ap (set (tabulate (heldAt cell codes values) w) t) (sym (held-here a v codes values t (sym own)))
+        ∙ tabulate-set (heldAt cell codes values) (heldAt cell (a ∷ codes) (v ∷ values)) w t l
+        (λ j h ne. held-later a v codes values j (λ e. ne (sym e ∙ sym own)))
 
-  module _ (codes values : List ℕ) (same : length values ≡ length codes) (apart : Apart p front codes) where
-    apart-take : (x : ℕ) → x < length codes → Apart p front (take (suc x) codes)
-    apart-take x h y z l m e =
-        let size : length (take (suc x) codes) ≡ suc x = length-take-le (suc x) codes h in
-        apart y z l (omega arith)
-        (ap (ownCell p front) (sym (getD-take (suc x) codes y 0 (omega arith)))
-        ∙ e
-        ∙ ap (ownCell p front) (getD-take (suc x) codes z 0 (omega arith)))
-
-    held-last :
-        (x : ℕ) → x < length codes
-        → heldIn p front (take (suc x) codes) (take (suc x) values) (ownCell p front (getD codes x 0)) ≡ getD values x 0
-    held-last x h =
-        let there : getD (take (suc x) codes) x 0 ≡ getD codes x 0 = getD-take (suc x) codes x 0 (omega arith) in
-        let size : length (take (suc x) codes) ≡ suc x = length-take-le (suc x) codes h in
-        ap (λ (a : ℕ). heldIn p front (take (suc x) codes) (take (suc x) values) (ownCell p front a)) (sym there)
-        ∙ held-own (take (suc x) codes) (take (suc x) values) (length-take-le (suc x) values (omega arith) ∙ sym size)
-        (apart-take x h) x (omega arith)
-        ∙ getD-take (suc x) values x 0 (omega arith)
-
-    pub stored-none : (c : ℕ) → replicate c 0 ≡ tabulate (heldIn p front (take 0 codes) (take 0 values)) c
-    unfolding heldIn
-    stored-none c = tabulate-zeros _ c (λ i l. refl)
-
-    pub stored-more :
-        (c x : ℕ) → x < length codes → ownCell p front (getD codes x 0) < c
-        → set (tabulate (heldIn p front (take x codes) (take x values)) c) (ownCell p front (getD codes x 0)) (getD values x 0)
-        ≡ tabulate (heldIn p front (take (suc x) codes) (take (suc x) values)) c
-    stored-more c x h l =
-        ap
-        (λ (v : ℕ). set (tabulate (heldIn p front (take x codes) (take x values)) c) (ownCell p front (getD codes x 0)) v)
-        (sym (held-last x h))
-        ∙ tabulate-set (heldIn p front (take x codes) (take x values)) (heldIn p front (take (suc x) codes) (take (suc x) values)) c
-        (ownCell p front (getD codes x 0)) l (λ j m ne. held-other codes values x j (λ e. ne (sym e)) h)
-
-    pub stored-all :
-        (c x : ℕ) → length codes ≤ x
-        → tabulate (heldIn p front (take x codes) (take x values)) c ≡ tabulate (heldIn p front codes values) c
-    stored-all c x h = rw (take-all x codes h, take-all x values (omega arith))
+    -- and taken out again, where no other code has its cell
+    pub held-taken :
+        heldAt cell codes values t ≡ 0 → set (tabulate (heldAt cell (a ∷ codes) (v ∷ values)) w) t 0 ≡ tabulate (heldAt cell codes values) w
+    held-taken none =
+        ap (set (tabulate (heldAt cell (a ∷ codes) (v ∷ values)) w) t) (sym none)
+        ∙ tabulate-set (heldAt cell (a ∷ codes) (v ∷ values)) (heldAt cell codes values) w t l
+        (λ j h ne. sym (held-later a v codes values j (λ e. ne (sym e ∙ sym own))))

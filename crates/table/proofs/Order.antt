@@ -14,7 +14,7 @@ use Rattle.hash.proofs.Members.{mem-at, at-mem}
 use Rattle.hash.proofs.Orders.{perm-length, perm-load, perm-together, perm-members, perm-cells, same-perm}
 use Rattle.hash.proofs.LeastLaws.{least-ext}
 use Rattle.table.specs.Words.{ownCell}
-use Rattle.table.specs.TwoLevel.{tabulate, blocksMultiplier, cellsMultiplier, startOf, frontWith, frontOf, heldIn, tableWith, cellsOf, wordsNeeded, tableOf}
+use Rattle.table.specs.TwoLevel.{tabulate, blocksMultiplier, cellsMultiplier, startOf, frontWith, frontOf, heldAt, tableWith, cellsOf, wordsNeeded, tableOf}
 use Rattle.table.proofs.Tabulate.{tabulate-ext}
 use Rattle.table.proofs.Front.{blockQ}
 use Rattle.table.proofs.Held.{Apart, held-own, held-none, holder}
@@ -90,19 +90,19 @@ PairsIn codes values codes′ values′ =
 
 pub held-order :
     (p : ℕ) (front codes values codes′ values′ : List ℕ) → length values ≡ length codes → length values′ ≡ length codes′
-    → Apart p front codes′ → PairsIn codes values codes′ values′ → PairsIn codes′ values′ codes values
-    → (i : ℕ) → heldIn p front codes values i ≡ heldIn p front codes′ values′ i
+    → Apart (ownCell p front) codes′ → PairsIn codes values codes′ values′ → PairsIn codes′ values′ codes values
+    → (i : ℕ) → heldAt (ownCell p front) codes values i ≡ heldAt (ownCell p front) codes′ values′ i
 held-order p front codes values codes′ values′ same same′ apart there back i =
-    elim (holder p front codes values i same) [
+    elim (holder (ownCell p front) codes values i same) [
       | inl h ↦
           let (y, l, code, value) = there (h .index) (h .in-list) in
           h .holds
           ∙ sym value
-          ∙ sym (held-own p front codes′ values′ same′ apart y l)
-          ∙ ap (heldIn p front codes′ values′) (ap (ownCell p front) code ∙ h .its-own)
+          ∙ sym (held-own (ownCell p front) codes′ values′ same′ apart y l)
+          ∙ ap (heldAt (ownCell p front) codes′ values′) (ap (ownCell p front) code ∙ h .its-own)
       | inr none ↦
-          held-none p front codes values i none
-          ∙ sym (held-none p front codes′ values′ i
+          held-none (ownCell p front) codes values i none
+          ∙ sym (held-none (ownCell p front) codes′ values′ i
           (λ y l e. let (x, h, code, value) = back y l in none x h (ap (ownCell p front) code ∙ e)))
     ]
 
@@ -133,7 +133,7 @@ module _
     (there : PairsIn codes schedules codes′ schedules′) (back : PairsIn codes′ schedules′ codes schedules)
   where
     with-order :
-        (front : List ℕ) (c : ℕ) → Apart p front codes′ → tableWith p front c codes schedules ≡ tableWith p front c codes′ schedules′
+        (front : List ℕ) (c : ℕ) → Apart (ownCell p front) codes′ → tableWith p front c codes schedules ≡ tableWith p front c codes′ schedules′
     unfolding tableWith
     with-order front c apart =
         ap₂ (λ (a b : List ℕ). front ++ (a ++ b))

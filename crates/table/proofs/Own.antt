@@ -106,13 +106,13 @@ module _ {p : ℕ} (prime : Prime p) (k : ℕ) (codes : List ℕ) (valid : Codes
     listed-own-lt x h =
         rw (own-is f (getD codes x 0) (omega arith)) (own-lt p k codes (getD codes x 0) (omega arith) (listed-load p k codes x h))
 
-    pub listed-apart : Apart p words codes
+    pub listed-apart : Apart (ownCell p words) codes
     listed-apart x y l h e =
         own-apart x y l h (sym (own-is f (getD codes x 0) (omega arith)) ∙ e ∙ own-is f (getD codes y 0) (omega arith))
 
 -- as read from the table's own front
 module _ {p : ℕ} (prime : Prime p) (codes : List ℕ) (valid : Codes p codes) where
-  pub front-apart : Apart p (frontOf p codes) codes
+  pub front-apart : Apart (ownCell p (frontOf p codes)) codes
   front-apart = listed-apart prime (blocksMultiplier p codes) codes valid (frontOf p codes) (frontOf-fronted p codes)
 
   pub front-own-lt : (x : ℕ) → x < length codes → ownCell p (frontOf p codes) (getD codes x 0) < cellsOf p codes

@@ -1,10 +1,10 @@
 -- The two-level table of a list with the least multipliers (document 01, "The two-level table" and "Words of a table"), for any prime p.
 use Prim.Native.Nat.{ℕ, zero, suc, _+_, _*_}
-use mathlib.Core.Bool.{cond}
 use mathlib.Core.List.{List, [], _∷_, _++_}
 use lib.Dec.{eqb, leb}
 use lib.ListN.{length}
 use Rattle.hash.specs.Hash.{load, members, together, sum, cells, least}
+use Rattle.table.specs.Pairs.{paired, valueWhere}
 use Rattle.table.specs.Words.{ownCell}
 
 -- f 0, f 1, .., f (n - 1)
@@ -37,17 +37,16 @@ unfoldable pub frontOf : ℕ → List ℕ → List ℕ
 unfolding frontWith blocksMultiplier
 frontOf p codes = frontWith p (blocksMultiplier p codes) codes
 
--- what cell i holds: the value listed with the code whose own cell it is, 0 where there is none
-unfoldable pub heldIn : ℕ → List ℕ → List ℕ → List ℕ → ℕ → ℕ
-heldIn p front [] values i = 0
-heldIn p front (a ∷ codes) [] i = 0
-heldIn p front (a ∷ codes) (v ∷ values) i = cond (eqb (ownCell p front a) i) v (heldIn p front codes values i)
+-- what cell i holds, where each code has a cell: the value listed with the code whose cell it is, 0 where there is none
+unfoldable pub heldAt : (ℕ → ℕ) → List ℕ → List ℕ → ℕ → ℕ
+unfolding paired valueWhere
+heldAt cell codes values i = valueWhere (λ a. eqb (cell a) i) (paired codes values)
 
 -- the table after its front: the codes of c cells, and their schedules
 unfoldable pub tableWith : ℕ → List ℕ → ℕ → List ℕ → List ℕ → List ℕ
-unfolding heldIn
+unfolding ownCell heldAt
 tableWith p front c codes schedules =
-    front ++ (tabulate (heldIn p front codes codes) c ++ tabulate (heldIn p front codes schedules) c)
+    front ++ (tabulate (heldAt (ownCell p front) codes codes) c ++ tabulate (heldAt (ownCell p front) codes schedules) c)
 
 -- the c of a list, and the total of its table
 unfoldable pub cellsOf : ℕ → List ℕ → ℕ

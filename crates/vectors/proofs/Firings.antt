@@ -3,17 +3,17 @@ use mathlib.Core.Path.{refl}
 use Rattle.hash.specs.Hash.{hashOf, load, members, together, sum, cells, leastFrom, least}
 use Rattle.table.specs.Answers.{firstOf}
 use Rattle.table.specs.Words.{blockOf, cellIn, ownCell}
-use Rattle.table.specs.TwoLevel.{tabulate, blocksMultiplier, cellsMultiplier, startOf, frontWith, frontOf, heldIn, tableWith, cellsOf, wordsNeeded, tableOf}
+use Rattle.table.specs.TwoLevel.{tabulate, blocksMultiplier, cellsMultiplier, startOf, frontWith, frontOf, heldAt, tableWith, cellsOf, wordsNeeded, tableOf}
 use Rattle.table.specs.Lookup.{badSizes, inCell, inBlock, lookupOf}
 use Rattle.panel.specs.Panel.{walkOf, panelOf}
-use Rattle.table.specs.Pairs.{among}
+use Rattle.table.specs.Pairs.{paired, valueWhere, among}
 use Rattle.lists.specs.List.{repeated}
 use Rattle.lists.specs.List.{badCode, badSchedule, listOr}
 use Rattle.builder.specs.Build.{buildOf}
 use Rattle.vectors.specs.Firings.{Firings}
 
 pub firings : Firings
-unfolding hashOf load members together sum cells leastFrom least firstOf blockOf cellIn ownCell tabulate blocksMultiplier cellsMultiplier startOf frontWith frontOf heldIn tableWith cellsOf wordsNeeded tableOf badSizes inCell inBlock lookupOf walkOf panelOf among badCode badSchedule repeated listOr buildOf
+unfolding hashOf load members together sum cells leastFrom least firstOf blockOf cellIn ownCell tabulate blocksMultiplier cellsMultiplier startOf frontWith frontOf paired valueWhere heldAt tableWith cellsOf wordsNeeded tableOf badSizes inCell inBlock lookupOf walkOf panelOf among badCode badSchedule repeated listOr buildOf
 firings =
     record {
       P1 = refl;

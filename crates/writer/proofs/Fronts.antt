@@ -9,7 +9,7 @@ use lib.ListN.{length, take, drop, set, replicate, length-replicate, replicate-a
 use Rattle.hash.specs.Hash.{sum}
 use Rattle.table.specs.TwoLevel.{tabulate}
 use Rattle.table.proofs.Tabulate.{tabulate-length}
-use Rattle.writer.specs.code.Writing.{sizeAt, startAt, runs, tableBut, headed, Offsets}
+use Rattle.writer.specs.code.Writing.{sizeAt, startAt, joined, tableBut, headed, Offsets}
 use Rattle.writer.proofs.Parts.{part-is, part-back, zeros-split}
 
 pub header-set : (words : List ℕ) (m n c k : ℕ) → words ≡ replicate m 0 → 3 ≤ m → set (set (set words 0 n) 1 c) 2 k ≡ headed n c k m
@@ -61,15 +61,15 @@ ones-are (suc n) =
     ap (λ (m : ℕ). replicate m 1) e ∙ sym (replicate-append-replicate {A = ℕ} n 1 1) ∙ ap (λ (s : List ℕ). s ++ (1 ∷ [])) (ones-are n)
 
 -- the cells of all blocks, when all are pending
-cells-are : (at : List ℕ) (n : ℕ) → replicate (startAt at n) 0 ≡ runs (λ j. replicate (sizeAt at j * sizeAt at j) 0) n
-unfolding startAt sum runs
+cells-are : (at : List ℕ) (n : ℕ) → replicate (startAt at n) 0 ≡ joined (λ j. replicate (sizeAt at j * sizeAt at j) 0) n
+unfolding startAt sum joined
 cells-are at zero = refl
 cells-are at (suc n) =
     sym (replicate-append-replicate {A = ℕ} (sum (λ t. sizeAt at t * sizeAt at t) n) (sizeAt at n * sizeAt at n) 0)
     ∙ ap (λ (s : List ℕ). s ++ replicate (sizeAt at n * sizeAt at n) 0) (cells-are at n)
 
 module _
-    (p n c k : ℕ) (at grouped paired words : List ℕ) (all : startAt at n ≡ c) (size : ℕ) (size-is : size ≡ 3 + 2 * n + 2 * c)
+    (p n c k : ℕ) (at grouped scheduled words : List ℕ) (all : startAt at n ≡ c) (size : ℕ) (size-is : size ≡ 3 + 2 * n + 2 * c)
     (is : words ≡ started n c k at size)
   where
     abbrev front : List ℕ
@@ -90,9 +90,9 @@ module _
     pub ones-back :
         (new : List ℕ) → new ≡ replicate (length (take (3 + n + n - (3 + n)) (drop (3 + n) words))) 1
         → take (3 + n) words ++ (new ++ drop (3 + n + n - (3 + n)) (drop (3 + n) words))
-        ≡ tableBut p n c k at grouped paired (λ j. true)
+        ≡ tableBut p n c k at grouped scheduled (λ j. true)
     ones-back new new-is =
-        let zeros : replicate {A = ℕ} c 0 ≡ runs (λ j. replicate (sizeAt at j * sizeAt at j) 0) n =
+        let zeros : replicate {A = ℕ} c 0 ≡ joined (λ j. replicate (sizeAt at j * sizeAt at j) 0) n =
         ap (λ (m : ℕ). replicate {A = ℕ} m 0) (sym all) ∙ cells-are at n in
         lent-back words front (3 + n) n (c + c) started-parts front-length new
         ∙ ap₂ (λ (s t : List ℕ). front ++ (s ++ t)) (new-is ∙ ap (λ (m : ℕ). replicate m 1) ones-count ∙ ones-are n)

@@ -1,6 +1,6 @@
 -- What the proofs of the functions cite, by topic.
 mod Starts
-mod Runs
+mod Joined
 mod Listing
 mod Vacancies
 mod Pending

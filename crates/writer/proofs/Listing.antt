@@ -23,12 +23,12 @@ pub record Kinds (kind rest both : ℕ → Bool) : Type 0 where
   pub together : (m : ℕ) → kind m || rest m ≡ both m
 
 -- block j is of the kind and is to be written next
-pub record Next (kind : ℕ → Bool) (p n c : ℕ) (at grouped paired : List ℕ) (j : ℕ) (words : List ℕ) : Type 0 where
+pub record NextBlock (kind : ℕ → Bool) (p n c : ℕ) (at grouped scheduled : List ℕ) (j : ℕ) (words : List ℕ) : Type 0 where
   pub below : j < n
   pub sized : kind (sizeAt at j) ≡ true
   pub start : getD words (3 + j) 0 ≡ startAt at j
   pub one : getD words (3 + n + j) 0 ≡ 1
-  pub vacant : Vacant p (groupAt at grouped j) (groupAt at paired j) c (3 + n + j) (3 + 2 * n + startAt at j) words
+  pub vacant : Vacant p (groupAt at grouped j) (groupAt at scheduled j) c (3 + n + j) (3 + 2 * n + startAt at j) words
 
 -- blocks of one size, before those that are larger
 pub one-size : (s : ℕ) → Kinds (λ m. eqb m (suc s)) (ltb (suc s)) (ltb s)
@@ -55,7 +55,7 @@ last-sizes s = record { apart = λ m e. refl; together = λ m. or-no (ltb s m) }
     or-no false = refl
 
 module _
-    {kind rest both : ℕ → Bool} (kinds : Kinds kind rest both) {p n c : ℕ} {at grouped paired : List ℕ} (g : Groups p n c at grouped paired)
+    {kind rest both : ℕ → Bool} (kinds : Kinds kind rest both) {p n c : ℕ} {at grouped scheduled : List ℕ} (g : Groups p n c at grouped scheduled)
     (k : ℕ) {listed : List ℕ} (are : listed ≡ chosen (λ j. kind (sizeAt at j)) n)
   where
     -- what is pending when the first t are written
@@ -63,17 +63,17 @@ module _
     waiting t j = among j (drop t listed) || rest (sizeAt at j)
 
     abbrev pub Written : ℕ → List ℕ → Type 0
-    Written t words = words ≡ tableBut p n c k at grouped paired (λ j. among j (drop t listed) || rest (sizeAt at j))
+    Written t words = words ≡ tableBut p n c k at grouped scheduled (λ j. among j (drop t listed) || rest (sizeAt at j))
 
-    pub listed-start : {words : List ℕ} → words ≡ tableBut p n c k at grouped paired (λ j. both (sizeAt at j)) → Written 0 words
+    pub listed-start : {words : List ℕ} → words ≡ tableBut p n c k at grouped scheduled (λ j. both (sizeAt at j)) → Written 0 words
     listed-start is =
         is
-        ∙ pending-same p n c k at grouped paired (λ j. both (sizeAt at j)) (waiting 0)
+        ∙ pending-same p n c k at grouped scheduled (λ j. both (sizeAt at j)) (waiting 0)
         (λ j l.
         sym (kinds .together (sizeAt at j))
         ∙ ap (λ (b : Bool). b || rest (sizeAt at j)) (sym (ap (among j) are ∙ chosen-among (λ i. kind (sizeAt at i)) n j l)))
 
-    pub listed-all : (t : ℕ) {words : List ℕ} → Written t words → length listed ≤ t → words ≡ tableBut p n c k at grouped paired (λ j. rest (sizeAt at j))
+    pub listed-all : (t : ℕ) {words : List ℕ} → Written t words → length listed ≤ t → words ≡ tableBut p n c k at grouped scheduled (λ j. rest (sizeAt at j))
     unfolding among
     listed-all t {words} is end = is ∙ rw (drop-of-length-le listed {i = t} end) refl
 
@@ -99,7 +99,7 @@ module _
       unfolding among
       other i ne = sym (rw (rest-is, ne-eqb i (getD listed t 0) ne) refl)
 
-      pub next-block : Next kind p n c at grouped paired (getD listed t 0) words
+      pub next-block : NextBlock kind p n c at grouped scheduled (getD listed t 0) words
       next-block =
           record {
             below = choice .0;
@@ -112,7 +112,7 @@ module _
       pub listed-more :
           {new : List ℕ}
           → new
-          ≡ blockIn p (groupAt at grouped (getD listed t 0)) (groupAt at paired (getD listed t 0)) c (3 + n + getD listed t 0)
+          ≡ blockIn p (groupAt at grouped (getD listed t 0)) (groupAt at scheduled (getD listed t 0)) c (3 + n + getD listed t 0)
           (3 + 2 * n + startAt at (getD listed t 0)) words
           → Written (t + 1) new
       listed-more new-is = new-is ∙ pending-written g k (waiting t) (waiting (t + 1)) (getD listed t 0) (choice .0) is waits done (λ i v ne. other i ne)

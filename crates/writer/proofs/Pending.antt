@@ -10,20 +10,20 @@ use native.Mathlib.Omega.{arith}
 use borrow.Author.Tests.{lt-ltb, le-ltb}
 use lib.ListN.{length, getD, take, drop, set, replicate, length-append, length-drop, length-replicate}
 use lib.Seq.{take-at, drop-at, length-take-le, getD-append-add}
+use Rattle.hash.specs.Hash.{hashOf}
 use Rattle.hash.proofs.Indicators.{true-or-false}
-use Rattle.table.specs.TwoLevel.{tabulate, cellsMultiplier}
+use Rattle.table.specs.TwoLevel.{tabulate, cellsMultiplier, heldAt}
 use Rattle.table.proofs.Tabulate.{tabulate-length, tabulate-ext, tabulate-set, tabulate-head, tabulate-past}
 use Rattle.search.specs.code.Cells.{square, filledBy}
-use Rattle.search.specs.code.Placed.{heldBy}
 use Rattle.search.proofs.LeastCells.{cells-none}
-use Rattle.writer.specs.code.Writing.{sizeAt, groupAt, startAt, multiplierAt, runs, multiplierBut, cellsBut, tableBut, Groups, above, Vacant, blockIn}
+use Rattle.writer.specs.code.Writing.{sizeAt, groupAt, startAt, multiplierAt, joined, multiplierBut, cellsBut, tableBut, Groups, above, Vacant, blockIn}
 use Rattle.writer.specs.code.Spread.{spreadIn}
 use Rattle.writer.proofs.Parts.{part-is, part-back, set-in}
-use Rattle.writer.proofs.Runs.{runs-ext, after, runs-split, after-ext, runs-length}
+use Rattle.writer.proofs.Joined.{joined-ext, after, joined-split, after-ext, joined-length}
 
 -- ---- tables whose blocks are the same
 
-module _ (p n c k : ℕ) (at grouped paired : List ℕ) (f g : ℕ → Bool) where
+module _ (p n c k : ℕ) (at grouped scheduled : List ℕ) (f g : ℕ → Bool) where
   -- block j, whatever values are listed with its codes
   abbrev Alike : ℕ → Type 0
   Alike j =
@@ -39,15 +39,15 @@ module _ (p n c k : ℕ) (at grouped paired : List ℕ) (f g : ℕ → Bool) whe
         e,
   )
 
-  tables-same : ((j : ℕ) → j < n → Alike j) → tableBut p n c k at grouped paired f ≡ tableBut p n c k at grouped paired g
+  tables-same : ((j : ℕ) → j < n → Alike j) → tableBut p n c k at grouped scheduled f ≡ tableBut p n c k at grouped scheduled g
   tables-same same =
-      let cells : (values : List ℕ) → runs (cellsBut p at grouped values f) n ≡ runs (cellsBut p at grouped values g) n =
-      λ values. runs-ext (cellsBut p at grouped values f) (cellsBut p at grouped values g) n (λ j l. same j l .1 values) in
+      let cells : (values : List ℕ) → joined (cellsBut p at grouped values f) n ≡ joined (cellsBut p at grouped values g) n =
+      λ values. joined-ext (cellsBut p at grouped values f) (cellsBut p at grouped values g) n (λ j l. same j l .1 values) in
       ap₂ (λ (s t : List ℕ). (n ∷ c ∷ k ∷ []) ++ (tabulate (startAt at) n ++ (s ++ t)))
       (tabulate-ext (multiplierBut p at grouped f) (multiplierBut p at grouped g) n (λ j l. same j l .0))
-      (ap₂ (λ (s t : List ℕ). s ++ t) (cells grouped) (cells paired))
+      (ap₂ (λ (s t : List ℕ). s ++ t) (cells grouped) (cells scheduled))
 
-  pub pending-same : ((j : ℕ) → j < n → f j ≡ g j) → tableBut p n c k at grouped paired f ≡ tableBut p n c k at grouped paired g
+  pub pending-same : ((j : ℕ) → j < n → f j ≡ g j) → tableBut p n c k at grouped scheduled f ≡ tableBut p n c k at grouped scheduled g
   pending-same same = tables-same (λ j l. alike j (same j l))
 
 -- ---- where a block's cells lie
@@ -63,9 +63,9 @@ regathered :
 regathered h m ea ef ex eb eg ey = rw (ea, ef, ex, eb, eg, ey) (simp append-assoc refl)
 
 filled-length : (p q : ℕ) (block values : List ℕ) → length (filledBy p q block values) ≡ square block
-filled-length p q block values = tabulate-length (heldBy p q (square block) block values) (square block)
+filled-length p q block values = tabulate-length (heldAt (hashOf p q (square block)) block values) (square block)
 
-module _ {p n c : ℕ} {at grouped paired : List ℕ} (g : Groups p n c at grouped paired) where
+module _ {p n c : ℕ} {at grouped scheduled : List ℕ} (g : Groups p n c at grouped scheduled) where
   values-length : (j : ℕ) (values : List ℕ) → getD at (j + 1) 0 ≤ length values → length (groupAt at values j) ≡ sizeAt at j
   values-length j values within = length-take-le (sizeAt at j) (drop (getD at j 0) values) (omega (arith, length-drop (getD at j 0) values))
 
@@ -83,18 +83,18 @@ module _ {p n c : ℕ} {at grouped paired : List ℕ} (g : Groups p n c at group
       ]
 
   -- the cells of the first blocks
-  runs-size :
-      (values : List ℕ) (pending : ℕ → Bool) (j : ℕ) → j ≤ n → length (runs (cellsBut p at grouped values pending) j) ≡ startAt at j
+  joined-size :
+      (values : List ℕ) (pending : ℕ → Bool) (j : ℕ) → j ≤ n → length (joined (cellsBut p at grouped values pending) j) ≡ startAt at j
   unfolding startAt
-  runs-size values pending j l =
-      runs-length (cellsBut p at grouped values pending) (λ t. sizeAt at t * sizeAt at t) j (λ i m. cells-length values pending i (omega arith))
+  joined-size values pending j l =
+      joined-length (cellsBut p at grouped values pending) (λ t. sizeAt at t * sizeAt at t) j (λ i m. cells-length values pending i (omega arith))
 
   module _ (k : ℕ) (pending : ℕ → Bool) (j : ℕ) (l : j < n) where
     abbrev F : ℕ → List ℕ
     F = cellsBut p at grouped grouped pending
 
     abbrev G : ℕ → List ℕ
-    G = cellsBut p at grouped paired pending
+    G = cellsBut p at grouped scheduled pending
 
     -- what stands before a block's first cells, up to the multipliers, between the first and the second, and after those
     abbrev front : List ℕ
@@ -104,10 +104,10 @@ module _ {p n c : ℕ} {at grouped paired : List ℕ} (g : Groups p n c at group
     multipliers = tabulate (multiplierBut p at grouped pending) n
 
     abbrev pre : List ℕ
-    pre = front ++ (multipliers ++ runs F j)
+    pre = front ++ (multipliers ++ joined F j)
 
     abbrev mid : List ℕ
-    mid = after F n j ++ runs G j
+    mid = after F n j ++ joined G j
 
     abbrev post : List ℕ
     post = after G n j
@@ -119,47 +119,47 @@ module _ {p n c : ℕ} {at grouped paired : List ℕ} (g : Groups p n c at group
     pre-length =
         omega (
           arith,
-          length-append front (multipliers ++ runs F j),
-          length-append multipliers (runs F j),
+          length-append front (multipliers ++ joined F j),
+          length-append multipliers (joined F j),
           front-length,
           tabulate-length (multiplierBut p at grouped pending) n,
-          runs-size grouped pending j (omega arith),
+          joined-size grouped pending j (omega arith),
         )
 
     mid-length : length mid + sizeAt at j * sizeAt at j ≡ c
     mid-length =
         omega (
           arith,
-          length-append (after F n j) (runs G j),
-          ap length (runs-split F n j l),
-          length-append (runs F j) (F j ++ after F n j),
+          length-append (after F n j) (joined G j),
+          ap length (joined-split F n j l),
+          length-append (joined F j) (F j ++ after F n j),
           length-append (F j) (after F n j),
           cells-length grouped pending j l,
-          runs-size grouped pending j (omega arith),
-          runs-size grouped pending n (omega arith),
-          runs-size paired pending j (omega arith),
+          joined-size grouped pending j (omega arith),
+          joined-size grouped pending n (omega arith),
+          joined-size scheduled pending j (omega arith),
           g .cells-are,
         )
 
-    split : tableBut p n c k at grouped paired pending ≡ pre ++ ((F j ++ (mid ++ G j)) ++ post)
+    split : tableBut p n c k at grouped scheduled pending ≡ pre ++ ((F j ++ (mid ++ G j)) ++ post)
     split =
-        ap₂ (λ (s t : List ℕ). (n ∷ c ∷ k ∷ []) ++ (tabulate (startAt at) n ++ (multipliers ++ (s ++ t)))) (runs-split F n j l) (runs-split G n j l)
-        ∙ gathered (n ∷ c ∷ k ∷ []) (tabulate (startAt at) n) multipliers (runs F j) (F j) (after F n j) (runs G j) (G j) post
+        ap₂ (λ (s t : List ℕ). (n ∷ c ∷ k ∷ []) ++ (tabulate (startAt at) n ++ (multipliers ++ (s ++ t)))) (joined-split F n j l) (joined-split G n j l)
+        ∙ gathered (n ∷ c ∷ k ∷ []) (tabulate (startAt at) n) multipliers (joined F j) (F j) (after F n j) (joined G j) (G j) post
 
     -- while it is pending
 
-    module _ {words : List ℕ} (is : words ≡ tableBut p n c k at grouped paired pending) where
+    module _ {words : List ℕ} (is : words ≡ tableBut p n c k at grouped scheduled pending) where
       abbrev block : List ℕ
       block = groupAt at grouped j
 
       abbrev values : List ℕ
-      values = groupAt at paired j
+      values = groupAt at scheduled j
 
       abbrev start : ℕ
       start = 3 + 2 * n + startAt at j
 
       abbrev behind : List ℕ
-      behind = runs F n ++ runs G n
+      behind = joined F n ++ joined G n
 
       pub start-is : getD words (3 + j) 0 ≡ startAt at j
       start-is =
@@ -204,7 +204,7 @@ module _ {p n c : ℕ} {at grouped paired : List ℕ} (g : Groups p n c at group
         parts : words ≡ pre ++ (window ++ post)
         parts =
             let empty : (of : List ℕ) → cellsBut p at grouped of pending j ≡ zeros = λ of. rw waits (ap (λ (m : ℕ). replicate {A = ℕ} m 0) (sym block-size)) in
-            is ∙ split ∙ ap₂ (λ (s t : List ℕ). pre ++ ((s ++ (mid ++ t)) ++ post)) (empty grouped) (empty paired)
+            is ∙ split ∙ ap₂ (λ (s t : List ℕ). pre ++ ((s ++ (mid ++ t)) ++ post)) (empty grouped) (empty scheduled)
 
         window-is : take (c + square block) (drop start words) ≡ window
         window-is =
@@ -227,7 +227,7 @@ module _ {p n c : ℕ} {at grouped paired : List ℕ} (g : Groups p n c at group
               cleared =
                   rw window-is
                   (record {
-                    parallel = values-length j paired (g .within j l .1) ∙ sym (group-length j l);
+                    parallel = values-length j scheduled (g .within j l .1) ∙ sym (group-length j l);
                     inside = omega (arith, mid-length, block-size);
                     sized = window-length;
                     first = take-at zeros (mid ++ zeros) (square block) zeros-length;
@@ -240,9 +240,9 @@ module _ {p n c : ℕ} {at grouped paired : List ℕ} (g : Groups p n c at group
 
   -- once it is written it is pending no more, and every other block is as it was
   pub pending-written :
-      (k : ℕ) (pending next : ℕ → Bool) (j : ℕ) (l : j < n) {words : List ℕ} → words ≡ tableBut p n c k at grouped paired pending → pending j ≡ true
+      (k : ℕ) (pending next : ℕ → Bool) (j : ℕ) (l : j < n) {words : List ℕ} → words ≡ tableBut p n c k at grouped scheduled pending → pending j ≡ true
       → next j ≡ false → ((i : ℕ) → i < n → (i ≡ j → ⊥) → next i ≡ pending i)
-      → blockIn p (groupAt at grouped j) (groupAt at paired j) c (3 + n + j) (3 + 2 * n + startAt at j) words ≡ tableBut p n c k at grouped paired next
+      → blockIn p (groupAt at grouped j) (groupAt at scheduled j) c (3 + n + j) (3 + 2 * n + startAt at j) words ≡ tableBut p n c k at grouped scheduled next
   pending-written k pending next j l {words} is waits written other =
       let block : List ℕ = groupAt at grouped j in
       let q : ℕ = multiplierAt p at grouped j in
@@ -252,13 +252,13 @@ module _ {p n c : ℕ} {at grouped paired : List ℕ} (g : Groups p n c at group
       let L : List ℕ = front k pending j l in
       let T : List ℕ = multipliers k pending j l in
       let P : List ℕ = post k pending j l in
-      let R : List ℕ = runs (F k pending j l) j in
+      let R : List ℕ = joined (F k pending j l) j in
       let cells : List ℕ → List ℕ = λ of. filledBy p q block (groupAt at of j) in
-      let new : List ℕ = cells grouped ++ (M ++ cells paired) in
-      let same : (i : ℕ) → i < n → (i ≡ j → ⊥) → Alike p n c k at grouped paired pending next i =
-      λ i v ne. alike p n c k at grouped paired pending next i (sym (other i v ne)) in
-      let before : (of : List ℕ) → runs (cellsBut p at grouped of pending) j ≡ runs (cellsBut p at grouped of next) j =
-      λ of. runs-ext (cellsBut p at grouped of pending) (cellsBut p at grouped of next) j (λ i v. same i (omega arith) (λ e. omega arith) .1 of) in
+      let new : List ℕ = cells grouped ++ (M ++ cells scheduled) in
+      let same : (i : ℕ) → i < n → (i ≡ j → ⊥) → Alike p n c k at grouped scheduled pending next i =
+      λ i v ne. alike p n c k at grouped scheduled pending next i (sym (other i v ne)) in
+      let before : (of : List ℕ) → joined (cellsBut p at grouped of pending) j ≡ joined (cellsBut p at grouped of next) j =
+      λ of. joined-ext (cellsBut p at grouped of pending) (cellsBut p at grouped of next) j (λ i v. same i (omega arith) (λ e. omega arith) .1 of) in
       let behind : (of : List ℕ) → after (cellsBut p at grouped of pending) n j ≡ after (cellsBut p at grouped of next) n j =
       λ of. after-ext (cellsBut p at grouped of pending) (cellsBut p at grouped of next) n j (λ i v ne. same i v ne .1 of) in
       let own : (of : List ℕ) → cells of ≡ cellsBut p at grouped of next j = λ of. rw written refl in
@@ -269,9 +269,9 @@ module _ {p n c : ℕ} {at grouped paired : List ℕ} (g : Groups p n c at group
       let middle : take (c - m) (drop m (Z ++ (M ++ Z))) ≡ M =
       ap (take (c - m)) (drop-at Z (M ++ Z) m (length-replicate {A = ℕ} m 0))
       ∙ take-at M Z (c - m) (omega (arith, mid-length k pending j l, block-size k pending j l is waits)) in
-      let spread : spreadIn p q block (groupAt at paired j) c (take (c + m) (drop (3 + 2 * n + startAt at j) words)) ≡ new =
-      ap (λ (s : List ℕ). cells grouped ++ (take (c - m) (drop m s) ++ cells paired)) (window-is k pending j l is waits)
-      ∙ ap (λ (s : List ℕ). cells grouped ++ (s ++ cells paired)) middle in
+      let spread : spreadIn p q block (groupAt at scheduled j) c (take (c + m) (drop (3 + 2 * n + startAt at j) words)) ≡ new =
+      ap (λ (s : List ℕ). cells grouped ++ (take (c - m) (drop m s) ++ cells scheduled)) (window-is k pending j l is waits)
+      ∙ ap (λ (s : List ℕ). cells grouped ++ (s ++ cells scheduled)) middle in
       ap (λ (s : List ℕ). set s (3 + n + j) q)
       (ap (λ (s : List ℕ). take (3 + 2 * n + startAt at j) words ++ (s ++ drop (c + m) (drop (3 + 2 * n + startAt at j) words))) spread
       ∙ part-back words (L ++ (T ++ R)) (Z ++ (M ++ Z)) P (parts k pending j l is waits) (3 + 2 * n + startAt at j) (c + m)
@@ -280,20 +280,20 @@ module _ {p n c : ℕ} {at grouped paired : List ℕ} (g : Groups p n c at group
       ∙ ap (λ (s : List ℕ). L ++ s) (append-assoc T R (new ++ P)))
       ∙ set-in L T (R ++ (new ++ P)) (3 + n) j q (front-length k pending j l) (omega (arith, tabulate-length (multiplierBut p at grouped pending) n))
       ∙ ap (λ (s : List ℕ). L ++ (s ++ (R ++ (new ++ P)))) multiplied
-      ∙ regathered L (tabulate (multiplierBut p at grouped next) n) (before grouped) (own grouped) (behind grouped) (before paired) (own paired)
-      (behind paired)
+      ∙ regathered L (tabulate (multiplierBut p at grouped next) n) (before grouped) (own grouped) (behind grouped) (before scheduled) (own scheduled)
+      (behind scheduled)
       ∙ sym (split k next j l)
 
   -- a block without a code is written from the start
-  pub empty-written : (k : ℕ) → tableBut p n c k at grouped paired (λ j. true) ≡ tableBut p n c k at grouped paired (above at 0)
+  pub empty-written : (k : ℕ) → tableBut p n c k at grouped scheduled (λ j. true) ≡ tableBut p n c k at grouped scheduled (above at 0)
   unfolding tabulate
   empty-written k =
-      tables-same p n c k at grouped paired (λ j. true) (above at 0)
+      tables-same p n c k at grouped scheduled (λ j. true) (above at 0)
       (λ j l.
       elim (ℕ-discrete (sizeAt at j) 0) [
         | yes e ↦
             let none : groupAt at grouped j ≡ [] = ap (λ (m : ℕ). take m (drop (getD at j 0) grouped)) e in
             rw (le-ltb 0 (sizeAt at j) (omega arith))
             (sym (ap (cellsMultiplier p) none ∙ cells-none (rw none at (g .codes j l))), λ values. rw (none, e) refl)
-        | no ne ↦ alike p n c k at grouped paired (λ j. true) (above at 0) j (sym (lt-ltb 0 (sizeAt at j) (omega arith)))
+        | no ne ↦ alike p n c k at grouped scheduled (λ j. true) (above at 0) j (sym (lt-ltb 0 (sizeAt at j) (omega arith)))
       ])

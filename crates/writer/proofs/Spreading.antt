@@ -7,12 +7,11 @@ use native.Mathlib.Omega.{arith}
 use lib.ListN.{length, getD, take, drop, set, replicate, length-drop, length-set, take-append-drop}
 use lib.Seq.{length-take-le, drop-length, drop-drop, set-append-left, set-comm}
 use Rattle.hash.specs.Hash.{hashOf}
-use Rattle.table.specs.TwoLevel.{tabulate}
+use Rattle.table.specs.TwoLevel.{tabulate, heldAt}
 use Rattle.table.proofs.Tabulate.{tabulate-length}
-use Rattle.search.specs.code.Placed.{heldBy}
+use Rattle.table.proofs.Held.{held-start, held-put}
 use Rattle.search.specs.code.Cells.{square}
 use Rattle.search.proofs.Ends.{drop-before}
-use Rattle.search.proofs.PlacedLaws.{heldBy-start, heldBy-put}
 use Rattle.writer.specs.code.Spread.{spreadIn, Cleared}
 use Rattle.writer.proofs.Parts.{set-past}
 
@@ -21,7 +20,7 @@ module _
     (p q w a v : ℕ) (block values mid : List ℕ) (c t : ℕ) (own : t ≡ hashOf p q w a) (l : t < w) (size : w + length mid ≡ c)
   where
     abbrev held : List ℕ → List ℕ → List ℕ
-    held s vs = tabulate (heldBy p q w s vs) w
+    held s vs = tabulate (heldAt (hashOf p q w) s vs) w
 
     put-pair :
         set (set (held block block ++ (mid ++ held block values)) t a) (c + t) v
@@ -31,18 +30,18 @@ module _
         let rest : List ℕ = mid ++ held block values in
         let e : c + t ≡ w + (length mid + t) = omega arith in
         ap (λ (s : List ℕ). set s (c + t) v)
-        (set-append-left (held block block) rest t a (omega (arith, tabulate-length (heldBy p q w block block) w))
-        ∙ ap (λ (s : List ℕ). s ++ rest) (heldBy-put p q w a a block block t own l))
+        (set-append-left (held block block) rest t a (omega (arith, tabulate-length (heldAt (hashOf p q w) block block) w))
+        ∙ ap (λ (s : List ℕ). s ++ rest) (held-put (hashOf p q w) w a a block block t own l))
         ∙ ap (λ (j : ℕ). set (codes ++ rest) j v) e
         ∙ set-past codes rest w (length mid + t) v (tabulate-length _ w)
         ∙ ap (λ (s : List ℕ). codes ++ s)
         (set-past mid (held block values) (length mid) t v refl
-        ∙ ap (λ (s : List ℕ). mid ++ s) (heldBy-put p q w a v block values t own l))
+        ∙ ap (λ (s : List ℕ). mid ++ s) (held-put (hashOf p q w) w a v block values t own l))
 
 -- of these words, the first w hold the codes of a block and the last w their values
 abbrev holding : ℕ → ℕ → ℕ → ℕ → List ℕ → List ℕ → List ℕ → List ℕ
 holding p q w c old block values =
-    tabulate (heldBy p q w block block) w ++ (take (c - w) (drop w old) ++ tabulate (heldBy p q w block values) w)
+    tabulate (heldAt (hashOf p q w) block block) w ++ (take (c - w) (drop w old) ++ tabulate (heldAt (hashOf p q w) block values) w)
 
 -- the pairs from i on are in their cells
 pub record Spreading (p q w : ℕ) (block values : List ℕ) (c i : ℕ) (old new : List ℕ) : Type 0 where
@@ -64,7 +63,7 @@ module _ (p q : ℕ) {w : ℕ} {block values : List ℕ} {c : ℕ} {words : List
       sym (take-append-drop w words)
       ∙ ap (λ (s : List ℕ). take w words ++ s)
       (sym (take-append-drop (c - w) (drop w words)) ∙ ap (λ (s : List ℕ). mid ++ s) (drop-drop (c - w) w words ∙ ap (λ (n : ℕ). drop n words) rest))
-      ∙ ap₂ (λ (s r : List ℕ). s ++ (mid ++ r)) (first ∙ sym (heldBy-start p q w [])) (second ∙ sym (heldBy-start p q w _))
+      ∙ ap₂ (λ (s r : List ℕ). s ++ (mid ++ r)) (first ∙ sym (held-start (hashOf p q w) w [])) (second ∙ sym (held-start (hashOf p q w) w _))
 
   pub spreading-start : Spreading p q w block values c (length block) words words
   spreading-start =

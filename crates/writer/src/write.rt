@@ -6,9 +6,9 @@ ghost use lib.Dec.{eqb, ltb};
 ghost use lib.ListN.{length, getD};
 ghost use Rattle.table.specs.Limits.{room};
 ghost use Rattle.table.specs.TwoLevel.{tabulate, frontWith, tableWith};
-ghost use Rattle.writer.specs.code.Grouping.{Blocks, Loads, ListedApart, chosen};
-ghost use Rattle.writer.specs.code.Writing.{sizeAt, groupAt, startAt, headed, Offsets, Groups, above, tableBut, Vacant, blockIn, Writable, Room};
-use crate::grouping::Apart;
+ghost use Rattle.writer.specs.code.Grouping.{BlockOfEach, Loads, ListedBySize, chosen};
+ghost use Rattle.writer.specs.code.Writing.{sizeAt, groupAt, startAt, headed, Offsets, Groups, above, tableBut, Vacant, blockIn, Writable, Scratch};
+use crate::grouping::BySize;
 use crate::grouping::group;
 use crate::spread::spread;
 use crate::spread::spread_two;
@@ -50,14 +50,14 @@ fn write_front(
     k: u32,
     at: &[u32],
     grouped: &[u32],
-    paired: &[u32],
+    scheduled: &[u32],
     words: &mut [u32],
 )
-    requires { ⌜ Groups p n c (now at) (now grouped) (now paired) × (n ≤ room) ⌝ }
+    requires { ⌜ Groups p n c (now at) (now grouped) (now scheduled) × (n ≤ room) ⌝ }
     requires { ⌜ length (now words) ≡ 3 + 2 * n + 2 * c ⌝ }
     ensures { λ _.
         ⌜ now (words .exit)
-        ≡ tableBut p n c k (now (at .entry)) (now (grouped .entry)) (now (paired .entry)) (above (now (at .entry)) 0) ⌝ }
+        ≡ tableBut p n c k (now (at .entry)) (now (grouped .entry)) (now (scheduled .entry)) (above (now (at .entry)) 0) ⌝ }
 {
     write_header(n as u32, c, k, words);
     let multipliers = 3 + n;
@@ -74,23 +74,23 @@ fn write_one(
     c: u32,
     at: &[u32],
     grouped: &[u32],
-    paired: &[u32],
+    scheduled: &[u32],
     j: usize,
     words: &mut [u32],
 )
-    requires { ⌜ Groups p n c (now at) (now grouped) (now paired) × ((j < n) × (n ≤ room)) ⌝ }
+    requires { ⌜ Groups p n c (now at) (now grouped) (now scheduled) × ((j < n) × (n ≤ room)) ⌝ }
     requires { ⌜ sizeAt (now at) j ≡ 1 ⌝ }
     requires { ⌜ (getD (now words) (3 + j) 0 ≡ startAt (now at) j) × (getD (now words) (3 + n + j) 0 ≡ 1) ⌝ }
-    requires { ⌜ Vacant p (groupAt (now at) (now grouped) j) (groupAt (now at) (now paired) j) c (3 + n + j) (3 + 2 * n + startAt (now at) j) (now words) ⌝ }
+    requires { ⌜ Vacant p (groupAt (now at) (now grouped) j) (groupAt (now at) (now scheduled) j) c (3 + n + j) (3 + 2 * n + startAt (now at) j) (now words) ⌝ }
     ensures { λ _.
         ⌜ now (words .exit)
-        ≡ blockIn p (groupAt (now (at .entry)) (now (grouped .entry)) j) (groupAt (now (at .entry)) (now (paired .entry)) j) c (3 + n + j)
+        ≡ blockIn p (groupAt (now (at .entry)) (now (grouped .entry)) j) (groupAt (now (at .entry)) (now (scheduled .entry)) j) c (3 + n + j)
         (3 + 2 * n + startAt (now (at .entry)) j) (now (words .entry)) ⌝ }
 {
     let from = wide(at[j]);
     let start = 3 + 2 * n + wide(words[3 + j]);
     words[start] = grouped[from];
-    words[start + wide(c)] = paired[from];
+    words[start + wide(c)] = scheduled[from];
 }
 
 // Writes the multiplier and the pairs of block j, which has two codes.
@@ -100,17 +100,17 @@ fn write_two(
     c: u32,
     at: &[u32],
     grouped: &[u32],
-    paired: &[u32],
+    scheduled: &[u32],
     j: usize,
     words: &mut [u32],
 )
-    requires { ⌜ Groups p n c (now at) (now grouped) (now paired) × ((j < n) × (n ≤ room)) ⌝ }
+    requires { ⌜ Groups p n c (now at) (now grouped) (now scheduled) × ((j < n) × (n ≤ room)) ⌝ }
     requires { ⌜ sizeAt (now at) j ≡ 2 ⌝ }
     requires { ⌜ getD (now words) (3 + j) 0 ≡ startAt (now at) j ⌝ }
-    requires { ⌜ Vacant p (groupAt (now at) (now grouped) j) (groupAt (now at) (now paired) j) c (3 + n + j) (3 + 2 * n + startAt (now at) j) (now words) ⌝ }
+    requires { ⌜ Vacant p (groupAt (now at) (now grouped) j) (groupAt (now at) (now scheduled) j) c (3 + n + j) (3 + 2 * n + startAt (now at) j) (now words) ⌝ }
     ensures { λ _.
         ⌜ now (words .exit)
-        ≡ blockIn p (groupAt (now (at .entry)) (now (grouped .entry)) j) (groupAt (now (at .entry)) (now (paired .entry)) j) c (3 + n + j)
+        ≡ blockIn p (groupAt (now (at .entry)) (now (grouped .entry)) j) (groupAt (now (at .entry)) (now (scheduled .entry)) j) c (3 + n + j)
         (3 + 2 * n + startAt (now (at .entry)) j) (now (words .entry)) ⌝ }
 {
     let from = wide(at[j]);
@@ -124,15 +124,15 @@ fn write_two(
         q,
         a,
         b,
-        paired[from],
-        paired[from + 1],
+        scheduled[from],
+        scheduled[from + 1],
         wide(c),
         &mut words[start..end],
     );
     words[3 + n + j] = q;
 }
 
-// Writes the pairs of one block from `start` on, where its cells serve first as marks for the search of its multiplier, and the multiplier at j.
+// Writes the pairs of one block from `start` on, where its cells are first the scratch buffer of the search for its multiplier, and the multiplier at j.
 fn write_block(
     p: u32,
     block: &[u32],
@@ -171,17 +171,17 @@ fn write_more(
     c: u32,
     at: &[u32],
     grouped: &[u32],
-    paired: &[u32],
+    scheduled: &[u32],
     j: usize,
     words: &mut [u32],
 )
-    requires { ⌜ Groups p n c (now at) (now grouped) (now paired) × ((j < n) × (n ≤ room)) ⌝ }
+    requires { ⌜ Groups p n c (now at) (now grouped) (now scheduled) × ((j < n) × (n ≤ room)) ⌝ }
     requires { ⌜ 2 < sizeAt (now at) j ⌝ }
     requires { ⌜ getD (now words) (3 + j) 0 ≡ startAt (now at) j ⌝ }
-    requires { ⌜ Vacant p (groupAt (now at) (now grouped) j) (groupAt (now at) (now paired) j) c (3 + n + j) (3 + 2 * n + startAt (now at) j) (now words) ⌝ }
+    requires { ⌜ Vacant p (groupAt (now at) (now grouped) j) (groupAt (now at) (now scheduled) j) c (3 + n + j) (3 + 2 * n + startAt (now at) j) (now words) ⌝ }
     ensures { λ _.
         ⌜ now (words .exit)
-        ≡ blockIn p (groupAt (now (at .entry)) (now (grouped .entry)) j) (groupAt (now (at .entry)) (now (paired .entry)) j) c (3 + n + j)
+        ≡ blockIn p (groupAt (now (at .entry)) (now (grouped .entry)) j) (groupAt (now (at .entry)) (now (scheduled .entry)) j) c (3 + n + j)
         (3 + 2 * n + startAt (now (at .entry)) j) (now (words .entry)) ⌝ }
 {
     let from = wide(at[j]);
@@ -190,7 +190,7 @@ fn write_more(
     write_block(
         p,
         &grouped[from..to],
-        &paired[from..to],
+        &scheduled[from..to],
         c,
         3 + n + j,
         start,
@@ -206,20 +206,20 @@ fn write_ones(
     k: u32,
     at: &[u32],
     grouped: &[u32],
-    paired: &[u32],
+    scheduled: &[u32],
     listed: &[u16],
     words: &mut [u32],
 )
-    requires { ⌜ Groups p n c (now at) (now grouped) (now paired) × (n ≤ room) ⌝ }
+    requires { ⌜ Groups p n c (now at) (now grouped) (now scheduled) × (n ≤ room) ⌝ }
     requires { ⌜ now listed ≡ chosen (λ j. eqb (sizeAt (now at) j) 1) n ⌝ }
-    requires { ⌜ now words ≡ tableBut p n c k (now at) (now grouped) (now paired) (above (now at) 0) ⌝ }
+    requires { ⌜ now words ≡ tableBut p n c k (now at) (now grouped) (now scheduled) (above (now at) 0) ⌝ }
     ensures { λ _.
         ⌜ now (words .exit)
-        ≡ tableBut p n c k (now (at .entry)) (now (grouped .entry)) (now (paired .entry)) (above (now (at .entry)) 1) ⌝ }
+        ≡ tableBut p n c k (now (at .entry)) (now (grouped .entry)) (now (scheduled .entry)) (above (now (at .entry)) 1) ⌝ }
 {
     let mut t = 0;
     while t < listed.len() {
-        write_one(p, n, c, at, grouped, paired, listed[t] as usize, words);
+        write_one(p, n, c, at, grouped, scheduled, listed[t] as usize, words);
         t += 1;
     }
 }
@@ -232,20 +232,20 @@ fn write_twos(
     k: u32,
     at: &[u32],
     grouped: &[u32],
-    paired: &[u32],
+    scheduled: &[u32],
     listed: &[u16],
     words: &mut [u32],
 )
-    requires { ⌜ Groups p n c (now at) (now grouped) (now paired) × (n ≤ room) ⌝ }
+    requires { ⌜ Groups p n c (now at) (now grouped) (now scheduled) × (n ≤ room) ⌝ }
     requires { ⌜ now listed ≡ chosen (λ j. eqb (sizeAt (now at) j) 2) n ⌝ }
-    requires { ⌜ now words ≡ tableBut p n c k (now at) (now grouped) (now paired) (above (now at) 1) ⌝ }
+    requires { ⌜ now words ≡ tableBut p n c k (now at) (now grouped) (now scheduled) (above (now at) 1) ⌝ }
     ensures { λ _.
         ⌜ now (words .exit)
-        ≡ tableBut p n c k (now (at .entry)) (now (grouped .entry)) (now (paired .entry)) (above (now (at .entry)) 2) ⌝ }
+        ≡ tableBut p n c k (now (at .entry)) (now (grouped .entry)) (now (scheduled .entry)) (above (now (at .entry)) 2) ⌝ }
 {
     let mut t = 0;
     while t < listed.len() {
-        write_two(p, n, c, at, grouped, paired, listed[t] as usize, words);
+        write_two(p, n, c, at, grouped, scheduled, listed[t] as usize, words);
         t += 1;
     }
 }
@@ -258,19 +258,19 @@ fn write_mores(
     k: u32,
     at: &[u32],
     grouped: &[u32],
-    paired: &[u32],
+    scheduled: &[u32],
     listed: &[u16],
     words: &mut [u32],
 )
-    requires { ⌜ Groups p n c (now at) (now grouped) (now paired) × (n ≤ room) ⌝ }
+    requires { ⌜ Groups p n c (now at) (now grouped) (now scheduled) × (n ≤ room) ⌝ }
     requires { ⌜ now listed ≡ chosen (λ j. ltb 2 (sizeAt (now at) j)) n ⌝ }
-    requires { ⌜ now words ≡ tableBut p n c k (now at) (now grouped) (now paired) (above (now at) 2) ⌝ }
+    requires { ⌜ now words ≡ tableBut p n c k (now at) (now grouped) (now scheduled) (above (now at) 2) ⌝ }
     ensures { λ _.
-        ⌜ now (words .exit) ≡ tableBut p n c k (now (at .entry)) (now (grouped .entry)) (now (paired .entry)) (λ j. false) ⌝ }
+        ⌜ now (words .exit) ≡ tableBut p n c k (now (at .entry)) (now (grouped .entry)) (now (scheduled .entry)) (λ j. false) ⌝ }
 {
     let mut t = 0;
     while t < listed.len() {
-        write_more(p, n, c, at, grouped, paired, listed[t] as usize, words);
+        write_more(p, n, c, at, grouped, scheduled, listed[t] as usize, words);
         t += 1;
     }
 }
@@ -283,25 +283,35 @@ fn write_blocks(
     k: u32,
     at: &[u32],
     grouped: &[u32],
-    paired: &[u32],
-    apart: Apart,
+    scheduled: &[u32],
+    sizes: BySize,
     lists: &[u16],
     words: &mut [u32],
 )
-    requires { ⌜ Groups p n c (now at) (now grouped) (now paired) × (n ≤ room) ⌝ }
-    requires { ⌜ ListedApart n (sizeAt (now at)) (apart .ones) (apart .twos) (apart .mores) (now lists) × (3 * n ≤ length (now lists)) ⌝ }
+    requires { ⌜ Groups p n c (now at) (now grouped) (now scheduled) × (n ≤ room) ⌝ }
+    requires { ⌜ ListedBySize n (sizeAt (now at)) (sizes .ones) (sizes .twos) (sizes .mores) (now lists) × (3 * n ≤ length (now lists)) ⌝ }
     requires { ⌜ length (now words) ≡ 3 + 2 * n + 2 * c ⌝ }
     ensures { λ _.
-        ⌜ now (words .exit) ≡ tableBut p n c k (now (at .entry)) (now (grouped .entry)) (now (paired .entry)) (λ j. false) ⌝ }
+        ⌜ now (words .exit) ≡ tableBut p n c k (now (at .entry)) (now (grouped .entry)) (now (scheduled .entry)) (λ j. false) ⌝ }
 {
-    write_front(p, n, c, k, at, grouped, paired, words);
-    let ones = apart.ones;
-    write_ones(p, n, c, k, at, grouped, paired, &lists[..ones], words);
-    let twos = n + apart.twos;
-    write_twos(p, n, c, k, at, grouped, paired, &lists[n..twos], words);
+    write_front(p, n, c, k, at, grouped, scheduled, words);
+    let ones = sizes.ones;
+    write_ones(p, n, c, k, at, grouped, scheduled, &lists[..ones], words);
+    let twos = n + sizes.twos;
+    write_twos(p, n, c, k, at, grouped, scheduled, &lists[n..twos], words);
     let more = 2 * n;
-    let mores = more + apart.mores;
-    write_mores(p, n, c, k, at, grouped, paired, &lists[more..mores], words);
+    let mores = more + sizes.mores;
+    write_mores(
+        p,
+        n,
+        c,
+        k,
+        at,
+        grouped,
+        scheduled,
+        &lists[more..mores],
+        words,
+    );
 }
 
 // Writes the table of a list, which the words have room for exactly, from the blocks of its codes and the loads of the blocks, in `at`.
@@ -314,18 +324,28 @@ pub fn write_table(
     blocks: &[u32],
     at: &mut [u32],
     grouped: &mut [u32],
-    paired: &mut [u32],
+    scheduled: &mut [u32],
     lists: &mut [u16],
     words: &mut [u32],
 )
     requires { ⌜ Writable p k c (now codes) (now schedules) ⌝ }
-    requires { ⌜ Blocks p k (now codes) (now blocks) × Loads p k (now codes) (now at) ⌝ }
-    requires { ⌜ Room (length (now codes)) (now at) (now grouped) (now paired) (now lists) ⌝ }
+    requires { ⌜ BlockOfEach p k (now codes) (now blocks) × Loads p k (now codes) (now at) ⌝ }
+    requires { ⌜ Scratch (length (now codes)) (now at) (now grouped) (now scheduled) (now lists) ⌝ }
     requires { ⌜ length (now words) ≡ 3 + 2 * length (now codes) + 2 * c ⌝ }
     ensures { λ _.
         ⌜ now (words .exit) ≡ tableWith p (frontWith p k (now (codes .entry))) c (now (codes .entry)) (now (schedules .entry)) ⌝ }
 {
     let n = codes.len();
-    let apart = group(p, k, codes, schedules, blocks, at, grouped, paired, lists);
-    write_blocks(p, n, c, k, at, grouped, paired, apart, lists, words);
+    let sizes = group(
+        p,
+        k,
+        codes,
+        schedules,
+        blocks,
+        at,
+        grouped,
+        scheduled,
+        lists,
+    );
+    write_blocks(p, n, c, k, at, grouped, scheduled, sizes, lists, words);
 }

@@ -5,9 +5,8 @@ use mathlib.Core.List.{List}
 use mathlib.Core.Path.{_≡_}
 use lib.Dec.{eqb}
 use lib.ListN.{length, drop, replicate}
-use Rattle.hash.specs.Hash.{together}
-use Rattle.table.specs.TwoLevel.{tabulate, cellsMultiplier}
-use Rattle.search.specs.code.Placed.{heldBy}
+use Rattle.hash.specs.Hash.{hashOf, together}
+use Rattle.table.specs.TwoLevel.{tabulate, cellsMultiplier, heldAt}
 use Rattle.search.specs.code.Searchable.{Searchable}
 
 -- the number of a block's cells
@@ -20,7 +19,7 @@ separates p block q = eqb (together p q (square block) block) 0
 
 -- the cells of a block with the values listed with its codes, placed by q
 abbrev pub filledBy : ℕ → ℕ → List ℕ → List ℕ → List ℕ
-filledBy p q block values = tabulate (heldBy p q (square block) block values) (square block)
+filledBy p q block values = tabulate (heldAt (hashOf p q (square block)) block values) (square block)
 
 -- a block and its cells, all of them 0
 pub record Unplaced (p : ℕ) (block cells : List ℕ) : Type 0 where
@@ -32,7 +31,7 @@ pub record Placing (p q w : ℕ) (block : List ℕ) (i : ℕ) (cells : List ℕ)
   pub left : i ≤ length block
   pub sized : length cells ≡ w
   pub apart : together p q w (drop i block) ≡ 0
-  pub held : cells ≡ tabulate (heldBy p q w (drop i block) (drop i block)) w
+  pub held : cells ≡ tabulate (heldAt (hashOf p q w) (drop i block) (drop i block)) w
 
 -- r tells whether q separates a block; its cells are filled if so, and otherwise kept
 pub record Tried (p q : ℕ) (block old new : List ℕ) (r : Bool) : Type 0 where

@@ -1,5 +1,5 @@
 -- The words of a table, from the pairs grouped by block: `at` has where each group starts, and where the last one ends; `grouped` has the codes, and
--- `paired` the schedule of each. All blocks are pending at first; those with a code are listed by how many they have, and written list by list.
+-- `scheduled` the schedule of each. All blocks are pending at first; those with a code are listed by how many they have, and written list by list.
 use Prim.Native.Nat.{ℕ, zero, suc, _+_, _*_, _-_, _<_, _≤_}
 use mathlib.Core.Bool.{Bool, cond}
 use mathlib.Core.List.{List, [], _∷_, _++_}
@@ -28,9 +28,9 @@ abbrev pub multiplierAt : ℕ → List ℕ → List ℕ → ℕ → ℕ
 multiplierAt p at grouped j = cellsMultiplier p (groupAt at grouped j)
 
 -- f 0, f 1, .., f (n - 1), one after the other
-unfoldable pub runs : (ℕ → List ℕ) → ℕ → List ℕ
-runs f zero = []
-runs f (suc n) = runs f n ++ f n
+unfoldable pub joined : (ℕ → List ℕ) → ℕ → List ℕ
+joined f zero = []
+joined f (suc n) = joined f n ++ f n
 
 -- n groups, one after the other, whose cells can be counted in a word
 pub record Offsets (n : ℕ) (at : List ℕ) : Type 0 where
@@ -51,17 +51,17 @@ cellsBut p at grouped values pending j =
 
 -- a table without the blocks that are pending
 abbrev pub tableBut : ℕ → ℕ → ℕ → ℕ → List ℕ → List ℕ → List ℕ → (ℕ → Bool) → List ℕ
-tableBut p n c k at grouped paired pending =
+tableBut p n c k at grouped scheduled pending =
     (n ∷ c ∷ k ∷ [])
     ++ (tabulate (startAt at) n
     ++ (tabulate (multiplierBut p at grouped pending) n
-    ++ (runs (cellsBut p at grouped grouped pending) n
-    ++ runs (cellsBut p at grouped paired pending) n)))
+    ++ (joined (cellsBut p at grouped grouped pending) n
+    ++ joined (cellsBut p at grouped scheduled pending) n)))
 
 -- the groups of a list, which have c cells
-pub record Groups (p n c : ℕ) (at grouped paired : List ℕ) : Type 0 where
+pub record Groups (p n c : ℕ) (at grouped scheduled : List ℕ) : Type 0 where
   pub offsets : Offsets n at
-  pub within : (j : ℕ) → j < n → (getD at (j + 1) 0 ≤ length grouped) × (getD at (j + 1) 0 ≤ length paired)
+  pub within : (j : ℕ) → j < n → (getD at (j + 1) 0 ≤ length grouped) × (getD at (j + 1) 0 ≤ length scheduled)
   pub codes : (j : ℕ) → j < n → Searchable p (groupAt at grouped j)
   pub cells-are : startAt at n ≡ c
 
@@ -97,8 +97,8 @@ pub record Writable (p k c : ℕ) (codes schedules : List ℕ) : Type 0 where
   pub cells-are : c ≡ cells p k codes
   pub parallel : length schedules ≡ length codes
 
--- room to work in: where the groups start, the groups, and the blocks that are listed
-pub record Room (n : ℕ) (at grouped paired lists : List ℕ) : Type 0 where
+-- scratch buffers for n codes: where the groups start, the groups, and the blocks that are listed
+pub record Scratch (n : ℕ) (at grouped scheduled lists : List ℕ) : Type 0 where
   pub at-room : n < length at
-  pub grouped-room : (n ≤ length grouped) × (n ≤ length paired)
+  pub grouped-room : (n ≤ length grouped) × (n ≤ length scheduled)
   pub listed-room : 3 * n ≤ length lists

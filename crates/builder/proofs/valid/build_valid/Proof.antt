@@ -3,25 +3,25 @@ use mathlib.Core.Path.{refl, sym}
 use native.Mathlib.Omega.{arith}
 use lib.Seq.{length-take-le}
 use borrow.Author.Needs.{needs}
-use Rattle.builder.proofs.Totals.{room-for}
+use Rattle.builder.proofs.Totals.{scratch-for}
 use Rattle.builder.proofs.valid.build_valid.Statement.{statement}
 use Rattle.builder.proofs.valid.build_valid.Tie as tie
 
 build-with-requires : tie.Need-build-with-requires
 build-with-requires c κs =
     let start = c .before .before .before .before .before .before .before .before .before .before in
-    (start .pre .0, ((start .pre .1, length-take-le _ _ (omega arith)), room-for {m = 32} _ _ _ _ (omega arith) refl (refl, refl) refl))
+    (start .pre .0, ((start .pre .1, length-take-le _ _ (omega arith)), scratch-for {m = 32} _ _ _ _ (omega arith) refl (refl, refl) refl))
 
 build-with-requires-2 : tie.Need-build-with-requires-2
 build-with-requires-2 c κs =
     let start = c .before .before .before .before .before .before .before .before .before .before .before in
-    (start .pre .0, ((start .pre .1, length-take-le _ _ (omega arith)), room-for {m = 256} _ _ _ _ (omega arith) refl (refl, refl) refl))
+    (start .pre .0, ((start .pre .1, length-take-le _ _ (omega arith)), scratch-for {m = 256} _ _ _ _ (omega arith) refl (refl, refl) refl))
 
 build-with-requires-3 : tie.Need-build-with-requires-3
 build-with-requires-3 c κs =
     let start = c .before .before .before .before .before .before .before .before .before .before .before in
     let few = start .pre .0 .few in
-    (start .pre .0, ((start .pre .1, length-take-le _ _ few), room-for {m = 2048} _ _ _ _ few refl (refl, refl) refl))
+    (start .pre .0, ((start .pre .1, length-take-le _ _ few), scratch-for {m = 2048} _ _ _ _ few refl (refl, refl) refl))
 
 pub build-valid-spec : {M : Type 1} → statement M
 build-valid-spec =

@@ -1,4 +1,4 @@
--- `search::cells::more_multiplier` meets its contract: a block of at most 8 codes keeps its cells in one word.
+-- `search::cells::more_multiplier` meets its contract: for at most 8 codes the cells taken are a bit set of one word.
 use mathlib.Core.Path.{refl}
 use native.Mathlib.Omega.{arith}
 use borrow.Author.Needs.{needs}

@@ -13,7 +13,7 @@ use Rattle.writer.proofs.write.write_blocks.Tie as tie
 -- each list ends before the next one begins
 ends :
     (c : tie.Start)
-    → (c .args .n ≤ room) × ((c .args .apart .ones ≤ c .args .n) × ((c .args .apart .twos ≤ c .args .n) × ((c .args .apart .mores ≤ c .args .n) × (3 * c .args .n ≤ length (c .args .lists .now)))))
+    → (c .args .n ≤ room) × ((c .args .sizes .ones ≤ c .args .n) × ((c .args .sizes .twos ≤ c .args .n) × ((c .args .sizes .mores ≤ c .args .n) × (3 * c .args .n ≤ length (c .args .lists .now)))))
 ends c =
     let counted = c .pre .1 .0 .0 .counted in
     (c .pre .0 .1, (counted .0, (counted .1 .0, (counted .1 .1, c .pre .1 .0 .1))))
@@ -26,14 +26,14 @@ write-twos-requires c κs =
     let ones = c .before .before .before .before .before in
     let start = ones .before .before .before .before .before .before .before .before .before .before .before .before in
     let n : ℕ = start .args .n in
-    (start .pre .0, (rw (add-sub-cancel-left n (start .args .apart .twos)) (start .pre .1 .0 .0 .twos-are), ones .write-ones .ensures))
+    (start .pre .0, (rw (add-sub-cancel-left n (start .args .sizes .twos)) (start .pre .1 .0 .0 .twos-are), ones .write-ones .ensures))
 
 write-mores-requires : tie.Need-write-mores-requires
 write-mores-requires c κs =
     let twos = c .before .before .before .before .before in
     let start = twos .before .before .before .before .before .before .before .before .before .before .before .before .before .before .before .before .before .before in
     let n : ℕ = start .args .n in
-    (start .pre .0, (rw (add-sub-cancel-left (2 * n) (start .args .apart .mores)) (start .pre .1 .0 .0 .mores-are), twos .write-twos .ensures))
+    (start .pre .0, (rw (add-sub-cancel-left (2 * n) (start .args .sizes .mores)) (start .pre .1 .0 .0 .mores-are), twos .write-twos .ensures))
 
 pub write-blocks-spec : {M : Type 1} → statement M
 write-blocks-spec =

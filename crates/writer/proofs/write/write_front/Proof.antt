@@ -26,7 +26,7 @@ returns c =
     let headed = wrote .before .before .before .before in
     let start = headed .before .before .before .before .before .before in
     let g = start .pre .0 .0 in
-    ones-back (start .args .p) _ _ _ _ (start .args .grouped .now) (start .args .paired .now) _ (g .cells-are) _ (start .pre .1)
+    ones-back (start .args .p) _ _ _ _ (start .args .grouped .now) (start .args .scheduled .now) _ (g .cells-are) _ (start .pre .1)
     (starts-back _ _ _ _ _ _ (room headed) (headed .write-header .ensures) _ (wrote .write-starts .ensures))
     _ (filled .fill .ensures)
     ∙ empty-written g _

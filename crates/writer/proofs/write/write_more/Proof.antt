@@ -25,7 +25,7 @@ module _ (c : tie.After-wide3) where
 
 within : (start : tie.Start)
     → (getD (start .args .at .now) (start .args .j + 1) 0 ≤ length (start .args .grouped .now))
-    × (getD (start .args .at .now) (start .args .j + 1) 0 ≤ length (start .args .paired .now))
+    × (getD (start .args .at .now) (start .args .j + 1) 0 ≤ length (start .args .scheduled .now))
 within start = start .pre .0 .0 .within (start .args .j) (start .pre .0 .1 .0)
 
 part-write-block-end : tie.Need-part-write-block-end

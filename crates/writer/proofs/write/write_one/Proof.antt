@@ -15,16 +15,16 @@ use Rattle.writer.proofs.write.write_one.Tie as tie
 module _ (start : tie.Start) where
   within :
       (getD (start .args .at .now) (start .args .j + 1) 0 ≤ length (start .args .grouped .now))
-      × (getD (start .args .at .now) (start .args .j + 1) 0 ≤ length (start .args .paired .now))
+      × (getD (start .args .at .now) (start .args .j + 1) 0 ≤ length (start .args .scheduled .now))
   within = start .pre .0 .0 .within (start .args .j) (start .pre .0 .1 .0)
 
   vacant :
       Vacant (start .args .p) (getD (start .args .grouped .now) (getD (start .args .at .now) (start .args .j) 0) 0 ∷ [])
-      (getD (start .args .paired .now) (getD (start .args .at .now) (start .args .j) 0) 0 ∷ []) (start .args .c) (3 + start .args .n + start .args .j)
+      (getD (start .args .scheduled .now) (getD (start .args .at .now) (start .args .j) 0) 0 ∷ []) (start .args .c) (3 + start .args .n + start .args .j)
       (3 + 2 * start .args .n + startAt (start .args .at .now) (start .args .j)) (start .args .words .now)
   vacant =
       let one = start .pre .1 .0 in
-      rw (one-value (start .args .at .now) (start .args .grouped .now) (start .args .j) (within .0) one, one-value (start .args .at .now) (start .args .paired .now) (start .args .j) (within .1) one)
+      rw (one-value (start .args .at .now) (start .args .grouped .now) (start .args .j) (within .0) one, one-value (start .args .at .now) (start .args .scheduled .now) (start .args .j) (within .1) one)
       at (start .pre .1 .1 .1)
 
 -- what is read: where its code stands, and where its cell is
@@ -54,7 +54,7 @@ returns c =
       start-is read,
       c .wide3 .ensures .value,
       one-value (start .args .at .now) (start .args .grouped .now) (start .args .j) (within start .0) (start .pre .1 .0),
-      one-value (start .args .at .now) (start .args .paired .now) (start .args .j) (within start .1) (start .pre .1 .0),
+      one-value (start .args .at .now) (start .args .scheduled .now) (start .args .j) (within start .1) (start .pre .1 .0),
     )
     (one-written (vacant start) (start .pre .1 .1 .0 .1))
 

@@ -15,12 +15,12 @@ use Rattle.writer.proofs.write.write_ones.Statement.{statement}
 use Rattle.writer.proofs.write.write_ones.Tie as tie
 
 abbrev Inv-loop : tie.InvT-loop
-Inv-loop p n c k at grouped paired listed words₀ t₀ words t =
-    (words ≡ tableBut p n c k at grouped paired (λ j. among j (drop t listed) || ltb 1 (sizeAt at j)))
+Inv-loop p n c k at grouped scheduled listed words₀ t₀ words t =
+    (words ≡ tableBut p n c k at grouped scheduled (λ j. among j (drop t listed) || ltb 1 (sizeAt at j)))
     × ((length words ≡ length words₀) × (t ≤ length listed))
 
 abbrev μ-loop : tie.MeasureT-loop
-μ-loop p n c k at grouped paired listed words₀ t₀ words t = length listed - t
+μ-loop p n c k at grouped scheduled listed words₀ t₀ words t = length listed - t
 
 loop-holds : tie.Need-loop-holds Inv-loop μ-loop
 loop-holds c =

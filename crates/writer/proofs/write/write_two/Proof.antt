@@ -12,16 +12,16 @@ use Rattle.writer.proofs.write.write_two.Tie as tie
 
 within : (start : tie.Start)
     → (getD (start .args .at .now) (start .args .j + 1) 0 ≤ length (start .args .grouped .now))
-    × (getD (start .args .at .now) (start .args .j + 1) 0 ≤ length (start .args .paired .now))
+    × (getD (start .args .at .now) (start .args .j + 1) 0 ≤ length (start .args .scheduled .now))
 within start = start .pre .0 .0 .within (start .args .j) (start .pre .0 .1 .0)
 
 -- the block is two codes
 groups : (start : tie.Start) → let from = getD (start .args .at .now) (start .args .j) 0 in
     (groupAt (start .args .at .now) (start .args .grouped .now) (start .args .j) ≡ getD (start .args .grouped .now) from 0 ∷ getD (start .args .grouped .now) (from + 1) 0 ∷ [])
-    × (groupAt (start .args .at .now) (start .args .paired .now) (start .args .j) ≡ getD (start .args .paired .now) from 0 ∷ getD (start .args .paired .now) (from + 1) 0 ∷ [])
+    × (groupAt (start .args .at .now) (start .args .scheduled .now) (start .args .j) ≡ getD (start .args .scheduled .now) from 0 ∷ getD (start .args .scheduled .now) (from + 1) 0 ∷ [])
 groups start = (
   two-values (start .args .at .now) (start .args .grouped .now) (start .args .j) (within start .0) (start .pre .1 .0),
-  two-values (start .args .at .now) (start .args .paired .now) (start .args .j) (within start .1) (start .pre .1 .0),
+  two-values (start .args .at .now) (start .args .scheduled .now) (start .args .j) (within start .1) (start .pre .1 .0),
 )
 
 -- what is read: where its codes stand, and where its cells start
@@ -36,14 +36,14 @@ module _ (c : tie.After-wide3) where
 
   room : let start = c .before .before .before .before .before .before .before .before .before in
       (c .before .before .before .wide .result + 1 < length (start .args .grouped .now))
-      × (c .before .before .before .wide .result + 1 < length (start .args .paired .now))
+      × (c .before .before .before .wide .result + 1 < length (start .args .scheduled .now))
   room =
       let start = c .before .before .before .before .before .before .before .before .before in
       (omega (arith, from-is, within start, start .pre .1 .0), omega (arith, from-is, within start, start .pre .1 .0))
 
   vacant : let start = c .before .before .before .before .before .before .before .before .before in let from = c .before .before .before .wide .result in
       Vacant (start .args .p) (getD (start .args .grouped .now) from 0 ∷ getD (start .args .grouped .now) (from + 1) 0 ∷ [])
-      (getD (start .args .paired .now) from 0 ∷ getD (start .args .paired .now) (from + 1) 0 ∷ []) (start .args .c) (3 + start .args .n + start .args .j)
+      (getD (start .args .scheduled .now) from 0 ∷ getD (start .args .scheduled .now) (from + 1) 0 ∷ []) (start .args .c) (3 + start .args .n + start .args .j)
       (3 + 2 * start .args .n + c .before .wide2 .result) (start .args .words .now)
   vacant =
       let start = c .before .before .before .before .before .before .before .before .before in
