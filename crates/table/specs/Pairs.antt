@@ -1,6 +1,6 @@
 -- Pairs of a code and a value that goes with it, and lists of them side by side in two arrays (document 01, "What the controller has").
 use Prim.Native.Nat.{ℕ}
-use mathlib.Core.Bool.{Bool, false, _||_}
+use mathlib.Core.Bool.{Bool, false, _||_, cond}
 use mathlib.Core.List.{List, [], _∷_, map}
 use lib.Dec.{eqb}
 
@@ -20,6 +20,21 @@ unfoldable pub paired : List ℕ → List ℕ → List Pair
 paired [] schedules = []
 paired (a ∷ codes) [] = []
 paired (a ∷ codes) (s ∷ schedules) = record { code = a; schedule = s } ∷ paired codes schedules
+
+-- the pairs whose code passes a test, in their order
+unfoldable pub pairsWhere : (ℕ → Bool) → List Pair → List Pair
+pairsWhere test [] = []
+pairsWhere test (r ∷ pairs) = cond (test (r .code)) (r ∷ pairsWhere test pairs) (pairsWhere test pairs)
+
+-- the value that goes with the first code that passes a test, 0 where none does
+unfoldable pub valueWhere : (ℕ → Bool) → List Pair → ℕ
+valueWhere test [] = 0
+valueWhere test (r ∷ pairs) = cond (test (r .code)) (r .schedule) (valueWhere test pairs)
+
+-- what cell i holds of the values listed with codes that have a cell each: the value of the code whose cell it is, 0 where there is none
+unfoldable pub heldAt : (ℕ → ℕ) → List ℕ → List ℕ → ℕ → ℕ
+unfolding paired valueWhere
+heldAt cell codes values i = valueWhere (λ a. eqb (cell a) i) (paired codes values)
 
 -- a is among these codes
 unfoldable pub among : ℕ → List ℕ → Bool
