@@ -6,25 +6,17 @@ ghost use Rattle.builder.specs.Build.{Built};
 ghost use Rattle.builder.specs.Built.{builtOf};
 ghost use Rattle.table.specs.Limits.{mostPairs};
 use crate::valid::build_valid;
-use lists::range::first_outside;
-use lists::repeats::first_repeated;
+use lists::list::ListAnswer;
+use lists::list::validate;
 use table::limits::MOST_PAIRS;
 
 pub enum BuildAnswer {
     // the total
     Built(u32),
-    // 1
-    LengthsDiffer,
-    // 2
-    TooManyPairs,
-    // 3, by the index
-    BadCode(u32),
-    // 4, by the index
-    BadSchedule(u32),
-    // 5, by the index
-    Repeated(u32),
     // 6, with the total
     TooShort(u32),
+    // 1 to 5
+    Refused(ListAnswer),
 }
 
 // Builds the table of a list, for any prime and limit on the pairs. Gives the total; the words after the table are kept.
@@ -40,25 +32,10 @@ pub fn build_for(
     ensures { λ r.
         ⌜ Built p limit (now (codes .entry)) (now (schedules .entry)) (now (words .entry)) (builtOf r) (now (words .exit)) ⌝ }
 {
-    let n = codes.len();
-    if n != schedules.len() {
-        return BuildAnswer::LengthsDiffer;
-    }
-    if (limit as usize) < n {
-        return BuildAnswer::TooManyPairs;
-    }
-    let code = first_outside(p - 1, codes);
-    if code < n {
-        return BuildAnswer::BadCode(code as u32);
-    }
-    let schedule = first_outside(999, schedules);
-    if schedule < n {
-        return BuildAnswer::BadSchedule(schedule as u32);
-    }
-    let again = first_repeated(codes);
-    if again < n {
-        return BuildAnswer::Repeated(again as u32);
-    }
+    let listed = validate(p, limit, codes, schedules);
+    let ListAnswer::Valid = listed else {
+        return BuildAnswer::Refused(listed);
+    };
     let lent = words.len();
     let total = build_valid(p, codes, schedules, words);
     if lent < (total as usize) {

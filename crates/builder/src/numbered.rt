@@ -2,6 +2,7 @@
 ghost use Rattle.builder.specs.Built.{builtOf};
 ghost use Rattle.table.specs.Numbers.{Shown};
 use crate::build::BuildAnswer;
+use lists::numbered;
 use table::answers::Numbered;
 
 pub fn numbered(a: BuildAnswer) -> Numbered
@@ -12,29 +13,10 @@ pub fn numbered(a: BuildAnswer) -> Numbered
             number: 0,
             value: total,
         },
-        BuildAnswer::LengthsDiffer => Numbered {
-            number: 1,
-            value: 0,
-        },
-        BuildAnswer::TooManyPairs => Numbered {
-            number: 2,
-            value: 0,
-        },
-        BuildAnswer::BadCode(i) => Numbered {
-            number: 3,
-            value: i,
-        },
-        BuildAnswer::BadSchedule(i) => Numbered {
-            number: 4,
-            value: i,
-        },
-        BuildAnswer::Repeated(i) => Numbered {
-            number: 5,
-            value: i,
-        },
         BuildAnswer::TooShort(total) => Numbered {
             number: 6,
             value: total,
         },
+        BuildAnswer::Refused(listed) => numbered::numbered(listed),
     }
 }

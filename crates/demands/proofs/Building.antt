@@ -14,7 +14,8 @@ use Rattle.table.specs.Pairs.{codesOf, schedulesOf}
 use Rattle.reader.specs.Pairs.{pairsIn}
 use Rattle.audit.proofs.Lookups.{lookup-range}
 use Rattle.builder.specs.Build.{builtWords}
-use Rattle.demands.specs.Lists.{Valid, Listed, rightAnswer, enough, lookedAt}
+use Rattle.lists.specs.Valid.{Valid}
+use Rattle.demands.specs.Lists.{Listed, rightAnswer, enough, lookedAt}
 use Rattle.demands.specs.Theorems.{Accepted, TableOfList, Settled, BuiltFrom, Building}
 use Rattle.demands.proofs.Within.{looked-within}
 use Rattle.demands.proofs.Reading.{reading}

@@ -4,7 +4,7 @@ use Prim.Native.Nat.{ℕ, _≤_}
 use native.Mathlib.Decide.{ℕ-discrete}
 use native.Mathlib.Omega.{arith}
 use mathlib.Core.List.{List, [], _∷_}
-use mathlib.Core.Path.{_≡_, sym, ap, _∙_}
+use mathlib.Core.Path.{_≡_, ap, _∙_}
 use lib.ListN.{length, take, drop}
 use lib.Seq.{take-at, drop-at}
 use borrow.Author.Tests.{eq-eqb, ne-eqb, le-ltb}
@@ -14,22 +14,16 @@ use Rattle.table.specs.Answers.{Answer, given, filled, over}
 use Rattle.table.specs.TwoLevel.{wordsNeeded, tableOf}
 use Rattle.table.proofs.Chosen.{few-cells, no-cells}
 use Rattle.table.proofs.Contents.{needed-is, table-length}
-use Rattle.lists.specs.List.{listOr}
 use Rattle.builder.specs.Build.{buildOf, builtWords}
-use Rattle.lists.proofs.Valid.{list-accepted}
-use Rattle.demands.specs.Lists.{Valid, enough}
+use Rattle.lists.proofs.Valid.{valid-passes}
+use Rattle.lists.specs.Valid.{Valid}
+use Rattle.demands.specs.Lists.{enough}
 
 module _ {p limit : ℕ} (codes schedules : List ℕ) (valid : Valid p limit codes schedules) where
-  -- none of 1 to 5
-  pub list-good : (rest : Answer) → listOr p limit codes schedules rest ≡ rest
-  list-good =
-      list-accepted (valid .codes-valid) limit schedules (sym (valid .parallel)) (valid .few)
-      (λ i h. (valid .schedules-from-one i h, valid .schedules-to-999 i h))
-
   pub build-succeeds :
       (lent : ℕ) → wordsNeeded p codes ≤ lent → buildOf p limit codes schedules lent ≡ given (wordsNeeded p codes ∷ [])
   unfolding buildOf
-  build-succeeds lent h = list-good _ ∙ rw (le-ltb lent (wordsNeeded p codes) h)
+  build-succeeds lent h = valid-passes valid _ ∙ rw (le-ltb lent (wordsNeeded p codes) h)
 
   module _ (words : List ℕ) (room : wordsNeeded p codes ≤ length words) where
     built-is : builtWords p limit codes schedules words ≡ over (tableOf p codes schedules) words

@@ -14,7 +14,8 @@ use Rattle.table.proofs.Own.{listed-own-lt}
 use Rattle.table.proofs.Contents.{Tabled, Filled, filled-own, filled-or-empty}
 use Rattle.audit.specs.WellFormed.{WellFormed}
 use Rattle.audit.proofs.Lookups.{lookup-found, lookup-absent}
-use Rattle.demands.specs.Lists.{Valid, rightAnswer}
+use Rattle.lists.specs.Valid.{Valid}
+use Rattle.demands.specs.Lists.{rightAnswer}
 use Rattle.demands.proofs.RightAnswer.{Answered, Missing, right-cases}
 use Rattle.demands.proofs.BuildingWellFormed.{well-formed}
 

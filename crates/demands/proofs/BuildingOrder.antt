@@ -8,7 +8,8 @@ use Rattle.table.specs.Answers.{given}
 use Rattle.table.specs.TwoLevel.{wordsNeeded, tableOf}
 use Rattle.table.proofs.Order.{PairsIn, codes-order, needed-order, table-order}
 use Rattle.builder.specs.Build.{buildOf, builtWords}
-use Rattle.demands.specs.Lists.{Valid, Listed, SamePairs}
+use Rattle.lists.specs.Valid.{Valid}
+use Rattle.demands.specs.Lists.{Listed, SamePairs}
 use Rattle.demands.proofs.BuildingBuild.{build-succeeds, built-table}
 
 listed-in :

@@ -21,7 +21,7 @@ use Rattle.table.proofs.Contents.{Tabled, Filled, Empty, filled-or-empty, cells
 use Rattle.audit.specs.Check.{codesIn, blockCodes, allCodes}
 use Rattle.audit.specs.WellFormed.{WellFormed}
 use Rattle.search.proofs.BlockCells.{held-codes}
-use Rattle.demands.specs.Lists.{Valid}
+use Rattle.lists.specs.Valid.{Valid}
 use Rattle.demands.proofs.BuildingCells.{block-full, table-full}
 
 module _

@@ -16,7 +16,8 @@ use Rattle.table.specs.Pairs.{Pair, codesOf, schedulesOf}
 use Rattle.reader.specs.Pairs.{pairsIn, pairsOf}
 use Rattle.audit.proofs.WellFormed.{check-exactly}
 use Rattle.reader.proofs.PairLaws as Pairs
-use Rattle.demands.specs.Lists.{Valid, Listed}
+use Rattle.lists.specs.Valid.{Valid}
+use Rattle.demands.specs.Lists.{Listed}
 use Rattle.demands.specs.Theorems.{Reading}
 use Rattle.demands.proofs.Settle.{lookedAt-eight, settle}
 

@@ -1,21 +1,12 @@
--- What the theorems speak of: valid lists, other orders of a list, the right answer to a code, and the words that settle it.
-use Prim.Native.Nat.{ℕ, _+_, _*_, _-_, _<_, _≤_}
+-- What the theorems speak of: other orders of a list, the right answer to a code, and the words that settle it.
+use Prim.Native.Nat.{ℕ, _+_, _*_, _-_, _<_}
 use mathlib.Core.Bool.{cond}
 use mathlib.Core.List.{List, [], _∷_, _++_}
 use mathlib.Core.Path.{_≡_}
 use lib.Dec.{eqb, ltb}
 use lib.ListN.{length, getD}
-use Rattle.hash.specs.Hash.{Codes}
 use Rattle.table.specs.Answers.{Answer, given, absent}
 use Rattle.table.specs.Words.{codeCount, cellCount, blockStart, blockEnd, blockOf, ownCell}
-
--- a list of pairs: at most `limit`, different codes from 1 to p - 1, each with a schedule from 1 to 999
-pub record Valid (p limit : ℕ) (codes schedules : List ℕ) : Type 0 where
-  pub parallel : length schedules ≡ length codes
-  pub few : length codes ≤ limit
-  pub codes-valid : Codes p codes
-  pub schedules-from-one : (i : ℕ) → i < length codes → 1 ≤ getD schedules i 0
-  pub schedules-to-999 : (i : ℕ) → i < length codes → getD schedules i 0 ≤ 999
 
 -- a pair stands in a list
 pub record Listed (codes schedules : List ℕ) (a s : ℕ) : Type 0 where

@@ -14,7 +14,8 @@ use Rattle.audit.specs.WellFormed.{WellFormed}
 use Rattle.table.specs.Pairs.{codesOf, schedulesOf}
 use Rattle.reader.specs.Pairs.{pairsIn, pairsOf}
 use Rattle.builder.specs.Build.{buildOf, builtWords}
-use Rattle.demands.specs.Lists.{Valid, Listed, SamePairs, rightAnswer, enough, AgreeAt, lookedAt}
+use Rattle.lists.specs.Valid.{Valid}
+use Rattle.demands.specs.Lists.{Listed, SamePairs, rightAnswer, enough, AgreeAt, lookedAt}
 
 -- the check accepts a table
 abbrev pub Accepted : List ℕ → Type 0

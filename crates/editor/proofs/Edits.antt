@@ -23,9 +23,9 @@ use Rattle.table.specs.Pairs.{Pair, codesOf, schedulesOf}
 use Rattle.reader.specs.Pairs.{pairsIn}
 use Rattle.reader.specs.code.Writing.{PairsWritten}
 use Rattle.reader.proofs.PairLaws.{pairs-length, pairs-codes, pair-schedule}
-use Rattle.lists.proofs.Valid.{list-accepted}
+use Rattle.lists.specs.Valid.{Valid}
 use Rattle.editor.specs.Edit.{without, withPair, present, rebuilt, tableOfPairs}
-use Rattle.editor.specs.code.Editing.{Outcome, Listable, InRange, fromTotal, fromFull, fromThere, Rebuilding, PutIn, TakenOut}
+use Rattle.editor.specs.code.Editing.{Outcome, InRange, fromTotal, fromFull, fromThere, Rebuilding, PutIn, TakenOut}
 use Rattle.editor.specs.code.Lists.{omit}
 use Rattle.editor.proofs.Omitted.{omit-length, omit-none, omit-map, omit-take}
 use Rattle.editor.proofs.Changed.{At, among-index, without-at, without-mem, without-codes, with-codes}
@@ -38,18 +38,23 @@ codes-long xs = length-map xs (λ (r : Pair). r .code)
 schedules-long : (xs : List Pair) → length (schedulesOf xs) ≡ length xs
 schedules-long xs = length-map xs (λ (r : Pair). r .schedule)
 
-pairs-listable :
+pairs-valid :
     {p limit : ℕ} (xs : List Pair) → length xs ≤ limit → Codes p (codesOf xs)
-    → ((r : Pair) → List·Memᴰ r xs → (1 ≤ r .schedule) × (r .schedule ≤ 999)) → Listable p limit (codesOf xs) (schedulesOf xs)
-pairs-listable {p} {limit} xs few c range =
+    → ((r : Pair) → List·Memᴰ r xs → (1 ≤ r .schedule) × (r .schedule ≤ 999)) → Valid p limit (codesOf xs) (schedulesOf xs)
+pairs-valid xs few c range =
     record {
-      passes =
-          list-accepted c limit (schedulesOf xs) (codes-long xs ∙ sym (schedules-long xs)) (omega (arith, codes-long xs))
-          (λ i l.
-          let here = mem-at (schedulesOf xs) i (omega (arith, codes-long xs, schedules-long xs)) in
-          let (r, m, same) = Memᴰ·of-map (λ (x : Pair). x .schedule) xs here in
-          rw same at (range r m));
+      parallel = schedules-long xs ∙ sym (codes-long xs);
+      few = omega (arith, codes-long xs);
+      codes-valid = c;
+      schedules-from-one = λ i l. in-range i l .0;
+      schedules-to-999 = λ i l. in-range i l .1;
     }
+  where
+    in-range : (i : ℕ) → i < length (codesOf xs) → (1 ≤ getD (schedulesOf xs) i 0) × (getD (schedulesOf xs) i 0 ≤ 999)
+    in-range i l =
+        let here = mem-at (schedulesOf xs) i (omega (arith, codes-long xs, schedules-long xs)) in
+        let (r, m, same) = Memᴰ·of-map (λ (x : Pair). x .schedule) xs here in
+        rw same at (range r m)
 
 -- ---- the answers
 
@@ -187,11 +192,11 @@ module _ {p limit : ℕ} {words codes schedules : List ℕ} {n code i : ℕ} (x 
         unfolding withPair
         put-schedules = rw (size, put-schedule) (put-list (λ (r : Pair). r .schedule) schedule schedules (x .schedules-front))
 
-        pub put-listable : InRange p code schedule → Listable p limit (take m codes′) (take m schedules′)
+        pub put-valid : InRange p code schedule → Valid p limit (take m codes′) (take m schedules′)
         unfolding withPair
-        put-listable range =
+        put-valid range =
             rw (put-codes, put-schedules)
-            (pairs-listable (withPair code schedule (pairsIn words)) few-with
+            (pairs-valid (withPair code schedule (pairsIn words)) few-with
             (with-codes code schedule (pairsIn words) (range .code-from-one) (range .code-below) (pairs-codes (x .accepted)))
             (λ r h.
             ⊎-elim
@@ -229,10 +234,10 @@ module _ {p limit : ℕ} {words codes schedules : List ℕ} {n code i : ℕ} (x 
         out-schedules : take (n - 1) schedules′ ≡ schedulesOf (without code (pairsIn words))
         out-schedules = out-schedule ∙ rw (x .schedules-front) (left-list (λ (r : Pair). r .schedule))
 
-        pub out-listable : Listable p limit (take (n - 1) codes′) (take (n - 1) schedules′)
-        out-listable =
+        pub out-valid : Valid p limit (take (n - 1) codes′) (take (n - 1) schedules′)
+        out-valid =
             rw (out-codes, out-schedules)
-            (pairs-listable (without code (pairsIn words)) (omega (arith, few-pairs, left-fewer index-lt))
+            (pairs-valid (without code (pairsIn words)) (omega (arith, few-pairs, left-fewer index-lt))
             (without-codes code (pairsIn words) (pairs-codes (x .accepted)))
             (λ r h. pair-schedule (x .accepted) (without-mem code (pairsIn words) h .0)))
 

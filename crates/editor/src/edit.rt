@@ -8,7 +8,8 @@ ghost use Rattle.audit.specs.WellFormed.{WellFormed};
 ghost use Rattle.table.specs.Limits.{room};
 ghost use Rattle.editor.specs.Edit.{Inserted, Removed};
 ghost use Rattle.editor.specs.Edited.{editedOf};
-ghost use Rattle.editor.specs.code.Editing.{Listable, InRange, Rebuilding, PutIn, TakenOut};
+ghost use Rattle.lists.specs.Valid.{Valid};
+ghost use Rattle.editor.specs.code.Editing.{InRange, Rebuilding, PutIn, TakenOut};
 ghost use Rattle.table.specs.Limits.{mostPairs};
 use crate::changes::leave_out;
 use crate::changes::position;
@@ -44,15 +45,15 @@ pub enum Edited {
 fn rebuild(p: u32, limit: u32, codes: &[u32], schedules: &[u32], second: &mut [u32]) -> Edited
     requires { ⌜ Prime p ⌝ }
     requires { ⌜ limit ≤ room ⌝ }
-    requires { ⌜ Listable p limit (now codes) (now schedules) ⌝ }
+    requires { ⌜ Valid p limit (now codes) (now schedules) ⌝ }
     ensures { λ r. ⌜ Rebuilding p (now (codes .entry)) (now (schedules .entry)) (now (second .entry)) (editedOf r) (now (second .exit)) ⌝ }
 {
     let built = build_for(p, limit, codes, schedules, second);
     match built {
         BuildAnswer::Built(total) => Edited::Rebuilt(total),
         BuildAnswer::TooShort(total) => Edited::TooShort(total),
-        // never: none of 1 to 5 holds of a changed list
-        _ => Edited::Full,
+        // never: a changed list is valid
+        BuildAnswer::Refused(_) => Edited::Full,
     }
 }
 

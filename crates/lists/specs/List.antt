@@ -1,16 +1,13 @@
--- A list of pairs, and its refusals (document 01, "Build", 1 to 5), for any prime p and limit on the pairs.
+-- The refusals of a list of pairs (document 01, "Build", 1 to 5), for any prime p and limit on the pairs.
 use Prim.Native.Nat.{ℕ, _-_}
 use mathlib.Core.Bool.{Bool, not}
-use mathlib.Core.List.{List}
+use mathlib.Core.List.{List, []}
 use lib.Dec.{eqb, ltb}
 use lib.ListN.{length, getD, take}
-use Rattle.table.specs.Answers.{Answer, refuse, refuseFirst, outside}
+use Rattle.table.specs.Answers.{Answer, given, refused, refuse, refuseFirst, outside}
 use Rattle.table.specs.Pairs.{among}
-
--- condition 5: the code with index i is equal to an earlier one
-unfoldable pub repeated : List ℕ → ℕ → Bool
-unfolding among
-repeated codes i = among (getD codes i 0) (take i codes)
+use Rattle.lists.specs.declared.list.ListAnswer.{ListAnswer}
+use Rattle.lists.specs.declared.list.ListAnswer.the-variants as Case
 
 -- conditions 3 and 4 of the pair with index i: its code or schedule out of range
 unfoldable pub badCode : ℕ → List ℕ → ℕ → Bool
@@ -18,6 +15,11 @@ badCode p codes i = outside 1 (p - 1) (getD codes i 0)
 
 unfoldable pub badSchedule : List ℕ → ℕ → Bool
 badSchedule schedules i = outside 1 999 (getD schedules i 0)
+
+-- condition 5: the code with index i is equal to an earlier one
+unfoldable pub repeated : List ℕ → ℕ → Bool
+unfolding among
+repeated codes i = among (getD codes i 0) (take i codes)
 
 -- the refusals of a list, otherwise what follows
 unfoldable pub listOr : ℕ → ℕ → List ℕ → List ℕ → Answer → Answer
@@ -29,3 +31,12 @@ listOr p limit codes schedules rest =
     (refuseFirst (length codes) (badSchedule schedules) 4
     (refuseFirst (length codes) (repeated codes) 5
     rest))))
+
+-- the paper's number for each case of a list's answer; a valid list has no value of its own
+abbrev pub listedOf : ListAnswer → Answer
+listedOf Case.Valid = given []
+listedOf Case.LengthsDiffer = refused 1 0
+listedOf Case.TooManyPairs = refused 2 0
+listedOf (Case.BadCode i) = refused 3 i
+listedOf (Case.BadSchedule i) = refused 4 i
+listedOf (Case.Repeated i) = refused 5 i

@@ -1,3 +1,5 @@
-// A list of pairs: the first index at which a test of document 01 fails.
-pub mod range;
-pub mod repeats;
+// A list of pairs: whether it is valid, and otherwise which of 1 to 5 refuses it.
+pub mod list;
+pub mod numbered;
+mod range;
+mod repeats;

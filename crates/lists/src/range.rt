@@ -18,7 +18,7 @@ fn some_outside(high: u32, list: &[u32]) -> bool
 }
 
 // The first number of a list that is not from 1 to high, or the list's length.
-pub fn first_outside(high: u32, list: &[u32]) -> usize
+pub(crate) fn first_outside(high: u32, list: &[u32]) -> usize
     ensures { λ r. ⌜ r ≡ firstOf (length (now (list .entry))) (λ i. outside 1 high (getD (now (list .entry)) i 0)) ⌝ }
 {
     if !some_outside(high, list) {

@@ -100,7 +100,7 @@ fn some_met(codes: &[u32]) -> bool
 
 // The first code that is equal to an earlier one, or the list's length. Whether there is one is told without a branch on any code; it is looked
 // for only then.
-pub fn first_repeated(codes: &[u32]) -> usize
+pub(crate) fn first_repeated(codes: &[u32]) -> usize
     requires { ⌜ length (now codes) ≤ room ⌝ }
     ensures { λ r. ⌜ r ≡ firstOf (length (now (codes .entry))) (repeated (now (codes .entry))) ⌝ }
 {

@@ -9,7 +9,6 @@ use Rattle.table.specs.Answers.{Answer, given, refuse, filled, intoRoom}
 use Rattle.table.specs.Words.{codeCount}
 use Rattle.table.specs.TwoLevel.{wordsNeeded, tableOf}
 use Rattle.reader.specs.Pairs.{pairsIn}
-use Rattle.lists.specs.List.{listOr}
 use Rattle.editor.specs.Edit.{without, withPair, present, rebuilt, tableOfPairs}
 
 -- an answer is the expected one, and the second buffer is filled by it
@@ -17,11 +16,7 @@ pub record Outcome (expected : Answer) (table second : List ℕ) (answer : Answe
   pub answers : answer ≡ expected
   pub second-at-exit : second′ ≡ filled expected table second
 
--- a list that none of 1 to 5 refuses
-pub record Listable (p limit : ℕ) (codes schedules : List ℕ) : Type 0 where
-  pub passes : (rest : Answer) → listOr p limit codes schedules rest ≡ rest
-
--- from 54 on, for such a list
+-- from 54 on, for a valid list
 unfoldable pub fromTotal : ℕ → List ℕ → ℕ → Answer
 fromTotal p codes lent = intoRoom 54 (wordsNeeded p codes) lent
 

@@ -5,7 +5,7 @@ use mathlib.Core.Path.{_≡_, sym, _∙_}
 use native.Mathlib.Omega.{arith}
 use borrow.Author.Needs.{needs}
 use lib.Seq.{length-take-le}
-use Rattle.editor.proofs.Edits.{Indexed, indexed, refusal, full, room-left, put-few, put-listable, put-outcome}
+use Rattle.editor.proofs.Edits.{Indexed, indexed, refusal, full, room-left, put-few, put-valid, put-outcome}
 use Rattle.editor.proofs.edit.put_in.Statement.{statement}
 use Rattle.editor.proofs.edit.put_in.Tie as tie
 
@@ -80,10 +80,10 @@ rebuild-requires c κs =
     let second = g .before .before in
     let e = tested (put second) in
     let s = root (e .before .before) in
-    let listable =
-    put-listable (found (e .before .before)) (room e) _ _ _ _ (g .grown .ensures) (put second .put-first .ensures)
+    let valid =
+    put-valid (found (e .before .before)) (room e) _ _ _ _ (g .grown .ensures) (put second .put-first .ensures)
     (second .put-first2 .ensures) (s .pre .1 .1 .1) in
-    (s .pre .0, (s .pre .1 .0, listable))
+    (s .pre .0, (s .pre .1 .0, valid))
 
 returns-2 : tie.Need-returns-2
 returns-2 c =

@@ -17,14 +17,15 @@ returns-2 c =
 
 returns-3 : tie.Need-returns-3
 returns-3 c =
-    let b = c .before .before .before in
-    no-other (b .before .before .before .before .before .pre .1 .1) (b .build-for .result) (c .match .keys3) (b .build-for .ensures)
+    let b = c .before .before .before .before in
+    no-other (b .before .before .before .before .before .pre .1 .1) (c .enum-told .given .0 .0) (rw (c .enum-told .given .1) at (b .build-for .ensures))
 
 pub rebuild-spec : {M : Type 1} → statement M
 rebuild-spec =
     tie.close
     (tie.spec
     (λ c κs. search needs)
+    (λ c. search needs)
     (λ c. search needs)
     (λ c. search needs)
     (λ c. search needs)

@@ -5,7 +5,7 @@ use mathlib.Core.Path.{sym}
 use native.Mathlib.Omega.{arith}
 use borrow.Author.Needs.{needs}
 use lib.Seq.{length-take-le}
-use Rattle.editor.proofs.Edits.{Indexed, indexed, refusal, gone, index-lt, out-listable, out-outcome}
+use Rattle.editor.proofs.Edits.{Indexed, indexed, refusal, gone, index-lt, out-valid, out-outcome}
 use Rattle.editor.proofs.edit.take_out.Statement.{statement}
 use Rattle.editor.proofs.edit.take_out.Tie as tie
 
@@ -64,7 +64,7 @@ rebuild-requires c κs =
     let e = tested (out second) in
     let s = root (e .before) in (
       s .pre .0,
-      (s .pre .1 .0, out-listable (found (e .before)) (e .if1 .left) _ _ (out second .leave-out .ensures) (second .leave-out2 .ensures)),
+      (s .pre .1 .0, out-valid (found (e .before)) (e .if1 .left) _ _ (out second .leave-out .ensures) (second .leave-out2 .ensures)),
     )
 
 returns-2 : tie.Need-returns-2
