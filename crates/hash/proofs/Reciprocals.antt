@@ -3,8 +3,10 @@
 use Prim.Native.Nat.{ℕ, _+_, _*_, _/_, _%_, _<_, _≤_}
 use mathlib.Core.Path.{_≡_}
 use native.Mathlib.Nat.{mod-lt, div-add-mod', mul-le-mul-left, mul-le-mul-right, div-eq-of-lt-le, lt-of-mul-lt-mul-right}
+use native.Mathlib.Decide.{decLe}
 use native.Mathlib.Omega.{arith}
-use Rattle.hash.specs.code.Contract.{Reciprocal}
+use borrow.Author.Tests.{le-ltb, lt-ltb}
+use Rattle.hash.specs.code.Contract.{reciprocalOf, Reciprocal, Ready}
 
 -- both bounds of the quotient q, the upper one with both sides times w
 divided :
@@ -32,3 +34,16 @@ rounded-up {p} {w} pos prime places =
       low = omega (arith, div-add-mod' 4294967295 w, mod-lt 4294967295 pos);
       high = omega (arith, div-add-mod' 4294967295 w);
     }
+
+-- a precomputed reciprocal is ready for remainders
+pub ready : {p w r : ℕ} → 0 < w → r ≡ reciprocalOf p w → Ready p w r
+unfolding reciprocalOf
+ready {p} {w} pos e =
+    elim (decLe p 65537) [
+      | yes prime ↦
+          elim (decLe w 65535) [
+            | yes places ↦ rw (e, le-ltb 65537 p prime, le-ltb 65535 w places) (record { positive = pos; exact = λ _. rounded-up pos prime (omega arith) })
+            | no many ↦ rw (e, le-ltb 65537 p prime, lt-ltb 65535 w (omega arith)) (record { positive = pos; exact = λ h. absurd (omega arith) })
+          ]
+      | no large ↦ rw (e, lt-ltb 65537 p (omega arith)) (record { positive = pos; exact = λ h. absurd (omega arith) })
+    ]

@@ -1,7 +1,7 @@
 // The one hash function. Codes, multipliers and the prime are words of 32 bits; their products take 64.
 ghost use Prim.Native.Nat.{_*_, _<_, _≤_};
 ghost use mathlib.Core.Path.{_≡_};
-ghost use Rattle.hash.specs.code.Contract.{Hashed, Remainder, Ready};
+ghost use Rattle.hash.specs.code.Contract.{Hashed, Remainder, Ready, reciprocalOf};
 
 // x mod 65,537, without a division: 65,536 is one less than it, so the upper half of x counts negative.
 fn by_halves(x: u64) -> u32
@@ -56,12 +56,15 @@ pub fn hash(p: u32, k: u32, w: u32, a: u32) -> u32
     residue(p, k, a) % w
 }
 
-// The divisor w made ready for many remainders of numbers below p: 2^32 / w rounded up, or 0 where w or p is too large for that.
+// The precomputed reciprocal of w, for many remainders of numbers below p: 2^32 / w rounded up, or 0 where w or p is too large for that.
 pub fn reciprocal(p: u32, w: u32) -> u64
     requires { ⌜ 0 < w ⌝ }
-    ensures { λ r. ⌜ Ready p w r ⌝ }
+    ensures { λ r. ⌜ r ≡ reciprocalOf p w ⌝ }
 {
-    if 65537 < p || 65535 < w {
+    if 65537 < p {
+        return 0;
+    }
+    if 65535 < w {
         return 0;
     }
     4294967295 / (w as u64) + 1

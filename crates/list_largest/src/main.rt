@@ -1,4 +1,8 @@
 // The longest file: P5's table, and words beyond its total.
 fn main() {
-    lister::run();
+    let mut bytes = [0u8; 65537];
+    let mut text = [0u8; 65536];
+    let lengths = lister::list_input(&mut bytes, &mut text);
+    let n = lengths.listed;
+    io::write_all(libc::STDOUT_FILENO, &text[..n]);
 }

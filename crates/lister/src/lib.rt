@@ -1,13 +1,32 @@
-// The program that lists, for each of its stored runs.
+// The program that lists, up to its output: each stored run is a program whose `main` calls this and writes the text.
+ghost use lib.ListN.{take};
+ghost use Rattle.io.specs.Counts.{Counts};
+ghost use Rattle.table.specs.Limits.{mostPairs};
+ghost use Rattle.listing.specs.Listing.{FileListed};
+ghost use Rattle.lister.specs.Input.{InputListed};
 use libc::STDIN_FILENO;
-use libc::STDOUT_FILENO;
 
-// Reads a table file from standard input and writes its listing to standard output. One byte more is read than a file may have, whatever
-// the pieces it comes in. No contract can say what is read or written: that of `listing::list` says which text belongs to which bytes.
-pub fn run() {
-    let mut bytes = [0u8; 65537];
-    let n = io::read_full(STDIN_FILENO, &mut bytes);
-    let mut text = [0u8; 65536];
-    let end = listing::list(&bytes[..n], &mut text);
-    io::write_all(STDOUT_FILENO, &text[..end]);
+// How many bytes were read, and how many bytes the text takes.
+pub struct Lengths {
+    pub read: usize,
+    pub listed: usize,
+}
+
+// Writes the listing of the first n bytes.
+fn list_first(bytes: &[u8], n: usize, text: &mut [u8; 65536]) -> usize
+    requires { ⌜ Counts n (now bytes) ⌝ }
+    ensures { λ r. ⌜ FileListed 65537 mostPairs (take n (now (bytes .entry))) (now (text .entry)) r (now (text .exit)) ⌝ }
+{
+    listing::list(&bytes[..n], text)
+}
+
+// Reads standard input into the first lent bytes and writes its listing into the first bytes of the text; those after it are kept. One byte
+// more is read than a file may have, whatever the pieces it comes in. Which bytes are read, and what the lent ones after them are, is left
+// open: `io::read_full` promises their number alone.
+pub fn list_input(bytes: &mut [u8; 65537], text: &mut [u8; 65536]) -> Lengths
+    ensures { λ r. ⌜ InputListed (now (text .entry)) r (now (bytes .exit)) (now (text .exit)) ⌝ }
+{
+    let read = io::read_full(STDIN_FILENO, bytes);
+    let listed = list_first(bytes, read, text);
+    Lengths { read, listed }
 }

@@ -22,7 +22,6 @@ use Rattle.listing.specs.code.Texts.{numberedOf, tableLines, textOf}
 use Rattle.listing.specs.declared.texts.Numbered.the-variants.{Given, Refused}
 use Rattle.files.specs.Bytes.{wordsOf}
 use Rattle.listing.specs.Listing.{refusedLine, tableText, fileOf, listingOf}
-use Rattle.decimal.proofs.Added.{kept}
 use Rattle.listing.proofs.LineLaws.{paired-same}
 
 -- the text for bytes, by their number
@@ -53,7 +52,6 @@ file-listed p limit bytes {old} a =
     record {
       length-is = length-is;
       text = a .memory ∙ ap (λ (n : ℕ). listingOf p limit bytes ++ drop n old) length-is;
-      fits = omega (arith, a .fits, kept a);
     }
 
 -- what is written of a well-formed table, with its pairs in the first n places of two arrays

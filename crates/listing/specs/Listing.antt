@@ -1,6 +1,6 @@
 -- The text that lists a table file (document 01, "The program that lists"), for any prime p and limit on the codes.
 -- A byte is a number below 256. Words of the text are written as their bytes, with the letters beside them.
-use Prim.Native.Nat.{ℕ, _%_, _≤_}
+use Prim.Native.Nat.{ℕ, _%_}
 use mathlib.Core.Bool.{not}
 use mathlib.Core.List.{List, [], _∷_, _++_}
 use mathlib.Core.Path.{_≡_}
@@ -83,4 +83,3 @@ listingOf p limit bytes =
 pub record FileListed (p limit : ℕ) (bytes old : List ℕ) (answer : ℕ) (new : List ℕ) : Type 0 where
   pub length-is : answer ≡ length (listingOf p limit bytes)
   pub text : new ≡ over (listingOf p limit bytes) old
-  pub fits : answer ≤ length new

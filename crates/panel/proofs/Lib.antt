@@ -1,2 +1,3 @@
--- The steps of a panel's walk.
+-- The steps of a panel's walk, and its answers apart from each other.
 pub mod Walking
+pub mod FiredLaws

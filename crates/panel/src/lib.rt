@@ -26,8 +26,11 @@ pub enum Fired {
     Schedule(u32),
     // the first code that is absent, by its index
     Unknown(u32),
-    // the number of a lookup's refusal, and its code's index
-    Refused(u32, u32),
+    // 31 to 34: the first code that is refused, by its index
+    CodeOutOfRange(u32),
+    TooFewWords(u32),
+    BadSizes(u32),
+    BadBlock(u32),
     // 35
     NoCodes,
     // 36
@@ -41,10 +44,10 @@ fn ended(f: Found, i: u32) -> Fired
     match f {
         Found::Schedule(s) => Fired::Schedule(s),
         Found::Absent => Fired::Unknown(i),
-        Found::CodeOutOfRange => Fired::Refused(31, i),
-        Found::TooFewWords => Fired::Refused(32, i),
-        Found::BadSizes => Fired::Refused(33, i),
-        Found::BadBlock => Fired::Refused(34, i),
+        Found::CodeOutOfRange => Fired::CodeOutOfRange(i),
+        Found::TooFewWords => Fired::TooFewWords(i),
+        Found::BadSizes => Fired::BadSizes(i),
+        Found::BadBlock => Fired::BadBlock(i),
     }
 }
 

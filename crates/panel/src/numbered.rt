@@ -16,7 +16,22 @@ pub fn numbered(f: Fired) -> Numbered
             number: 1000,
             value: i,
         },
-        Fired::Refused(number, i) => Numbered { number, value: i },
+        Fired::CodeOutOfRange(i) => Numbered {
+            number: 31,
+            value: i,
+        },
+        Fired::TooFewWords(i) => Numbered {
+            number: 32,
+            value: i,
+        },
+        Fired::BadSizes(i) => Numbered {
+            number: 33,
+            value: i,
+        },
+        Fired::BadBlock(i) => Numbered {
+            number: 34,
+            value: i,
+        },
         Fired::NoCodes => Numbered {
             number: 35,
             value: 0,

@@ -5,6 +5,7 @@ use mathlib.Core.Path.{_≡_, _∙_, sym, ap}
 use native.Mathlib.Omega.{arith}
 use borrow.Author.Needs.{needs}
 use lib.ListN.{length, drop}
+use Rattle.hash.proofs.Reciprocals.{ready}
 use Rattle.panel.specs.Panel.{walkOf}
 use Rattle.table.specs.Found.{foundOf}
 use Rattle.panel.proofs.Walking.{walk-over, walk-on, walk-ends}
@@ -20,6 +21,12 @@ abbrev μ-loop : tie.MeasureT-loop
 
 loop-holds : tie.Need-loop-holds Inv-loop μ-loop
 loop-holds c = search needs
+
+lookup-in-requires : tie.Need-lookup-in-requires Inv-loop μ-loop
+lookup-in-requires c κs =
+    let made = c .before .before .before in
+    let blocks = made .before .before .before .before .pre .1 .0 in
+    (search needs, (blocks, ready (blocks .some) (made .reciprocal .ensures)))
 
 returns : tie.Need-returns Inv-loop μ-loop
 returns c =
@@ -53,7 +60,7 @@ walk-spec =
     loop-holds
     (λ c. search needs)
     (λ c. search needs)
-    (λ c κs. search needs)
+    lookup-in-requires
     (λ c. search needs)
     (λ c. search needs)
     (λ c κs. search needs)

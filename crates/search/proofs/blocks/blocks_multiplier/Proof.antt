@@ -5,6 +5,7 @@ use mathlib.Core.Path.{_≡_}
 use native.Mathlib.Omega.{arith}
 use borrow.Author.Needs.{needs}
 use lib.ListN.{length}
+use Rattle.hash.proofs.Reciprocals.{ready}
 use Rattle.search.proofs.LeastBlocks.{TryingBlocks, blocks-none, none-blocked, blocks-start, blocks-found, blocks-more}
 use Rattle.search.proofs.blocks.blocks_multiplier.Statement.{statement}
 use Rattle.search.proofs.blocks.blocks_multiplier.Tie as tie
@@ -27,7 +28,7 @@ loop-holds c = let start = c .before .before .before .before .before in (blocks-
 count-cells-requires : tie.Need-count-cells-requires Inv-loop μ-loop
 count-cells-requires c κs =
     let h = c .before .before .before in
-    (record { multiplier = omega (arith, h .loop .inv .0 .upto, h .loop .inv .0 .least .below); below = h .before .before .before .before .before .before .pre .0 .valid .below; some = omega arith; few = omega arith; sized = h .loop .inv .1 }, search needs)
+    (record { multiplier = omega (arith, h .loop .inv .0 .upto, h .loop .inv .0 .least .below); below = h .before .before .before .before .before .before .pre .0 .valid .below; some = omega arith; few = omega arith; sized = h .loop .inv .1 }, ready (omega arith) (h .before .reciprocal .ensures))
 
 returns-2 : tie.Need-returns-2 Inv-loop μ-loop
 returns-2 c =

@@ -3,6 +3,7 @@
 use mathlib.Core.Path.{refl}
 use native.Mathlib.Nat.{mul-pos}
 use borrow.Author.Needs.{needs}
+use Rattle.hash.proofs.Reciprocals.{ready}
 use Rattle.search.proofs.LeastCells.{unplaced-square}
 use Rattle.writer.proofs.Vacancies.{vacant-part, vacant-separating, again-cleared, again-length, again-written}
 use Rattle.writer.proofs.write.write_block.Statement.{statement}
@@ -15,7 +16,7 @@ more-multiplier-requires : tie.Need-more-multiplier-requires
 more-multiplier-requires c κs =
     let start = c .before .before .before .before .before in
     let part = vacant-part (start .pre .0) in
-    (part, (start .pre .1, rw (unplaced-square part) (c .before .reciprocal .ensures)))
+    (part, (start .pre .1, rw (unplaced-square part) (ready (mul-pos (start .pre .1) (start .pre .1)) (c .before .reciprocal .ensures))))
 
 spread-requires : tie.Need-spread-requires
 spread-requires c κs =
@@ -23,7 +24,7 @@ spread-requires c κs =
     let start = found .before .before .before .before .before .before in (
       vacant-separating (start .pre .0) (found .more-multiplier .ensures .0),
       (
-        (found .before .before .reciprocal .ensures, refl),
+        (ready (mul-pos (start .pre .1) (start .pre .1)) (found .before .before .reciprocal .ensures), refl),
         again-cleared (start .pre .0) (c .before .before .wide .ensures .value) (c .before .wide2 .ensures .value) _ (found .more-multiplier .ensures .1),
       ),
     )

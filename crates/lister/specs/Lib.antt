@@ -1,0 +1,2 @@
+-- What the listing program leaves in lent memory.
+pub mod Input
