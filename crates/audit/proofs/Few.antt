@@ -11,17 +11,17 @@ use Rattle.hash.specs.Hash.{hashOf}
 use Rattle.hash.proofs.Counting.{hash-lt}
 use Rattle.table.specs.Answers.{firstOf}
 use Rattle.audit.specs.Check.{codesIn}
-use Rattle.audit.specs.code.Blocks.{elsewhere, notOwn, misplacedFrom, orOne, TableHashed, Codes}
+use Rattle.audit.specs.code.Blocks.{elsewhere, notOwn, misplacedFrom, orZero, TableHashed, Codes}
 use Rattle.audit.specs.declared.blocks.TableHash.{TableHash}
 use Rattle.audit.specs.declared.blocks.BlockHash.{BlockHash}
 
-pub few-read : (part one : List ℕ) → one ≡ 0 ∷ [] → 0 < length (orOne part one)
-few-read [] one e = omega (arith, ap length e)
-few-read (a ∷ part) one e = rw (ne-eqb (length (a ∷ part)) 0 (omega arith)) (omega arith)
+pub few-read : (part word : List ℕ) → word ≡ 0 ∷ [] → 0 < length (orZero part word)
+few-read [] word e = omega (arith, ap length e)
+few-read (a ∷ part) word e = rw (ne-eqb (length (a ∷ part)) 0 (omega arith)) (omega arith)
 
-pub few-is : (part one : List ℕ) → one ≡ 0 ∷ [] → getD (orOne part one) 0 0 ≡ getD part 0 0
-few-is [] one e = ap (λ (l : List ℕ). getD l 0 0) e
-few-is (a ∷ part) one e = rw (ne-eqb (length (a ∷ part)) 0 (omega arith)) refl
+pub few-is : (part word : List ℕ) → word ≡ 0 ∷ [] → getD (orZero part word) 0 0 ≡ getD part 0 0
+few-is [] word e = ap (λ (l : List ℕ). getD l 0 0) e
+few-is (a ∷ part) word e = rw (ne-eqb (length (a ∷ part)) 0 (omega arith)) refl
 
 pub few-below : (h : TableHash) (part : List ℕ) → TableHashed h → Codes h part → getD part 0 0 < h .prime
 few-below h [] t c = omega (arith, t .below)

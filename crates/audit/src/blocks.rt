@@ -9,7 +9,7 @@ ghost use lib.ListN.{length};
 ghost use Rattle.hash.specs.Hash.{hashOf};
 ghost use Rattle.table.specs.Answers.{firstOf};
 ghost use Rattle.table.specs.code.Sized.{Within};
-ghost use Rattle.audit.specs.code.Blocks.{elsewhere, notOwn, misplacedFrom, codePlaces, orOne, TableHashed, BlockHashed, Codes, PlacesListed, Tested};
+ghost use Rattle.audit.specs.code.Blocks.{elsewhere, notOwn, misplacedFrom, codePlaces, orZero, TableHashed, BlockHashed, Codes, PlacesListed, Tested};
 use table::numbers::held;
 use table::numbers::wide;
 
@@ -51,12 +51,12 @@ fn listed(place: u16) -> usize
     place as usize
 }
 
-// The part, or the other one where it is empty: so that a first cell can be read in any case.
-fn or_one<'a>(part: &'a [u32], one: &'a [u32]) -> &'a [u32]
-    ensures { λ r. ⌜ now r ≡ orOne (now (part .entry)) (now (one .entry)) ⌝ }
+// The part, or a word that is 0 where it is empty: so that a first cell can be read in any case, and the address is selected.
+fn or_zero<'a>(part: &'a [u32], zero: &'a [u32]) -> &'a [u32]
+    ensures { λ r. ⌜ now r ≡ orZero (now (part .entry)) (now (zero .entry)) ⌝ }
 {
     if part.len() == 0 {
-        return one;
+        return zero;
     }
     part
 }
@@ -79,12 +79,12 @@ fn not_own(h: TableHash, b: BlockHash, t: usize, a: u32) -> bool
 }
 
 // A block of at most one cell, where the place of every code is 0.
-fn test_few<'a>(h: TableHash, b: BlockHash, part: &'a [u32], one: &'a [u32]) -> BlockTest
+fn test_few<'a>(h: TableHash, b: BlockHash, part: &'a [u32], zero: &'a [u32]) -> BlockTest
     requires { ⌜ TableHashed h × (Codes h (now part) × ((length (now part) ≡ b .cells) × (b .cells < 2))) ⌝ }
-    requires { ⌜ now one ≡ 0 ∷ [] ⌝ }
+    requires { ⌜ now zero ≡ 0 ∷ [] ⌝ }
     ensures { λ r. ⌜ Tested h b 0 (now (part .entry)) r ⌝ }
 {
-    let cells = or_one(part, one);
+    let cells = or_zero(part, zero);
     let a = cells[0];
     let bad = (a != 0) & elsewhere(h, b.number, a);
     BlockTest {
@@ -161,21 +161,21 @@ fn test_many(h: TableHash, b: BlockHash, part: &[u32], list: &mut [u16]) -> Bloc
     }
 }
 
-// Counts and places the codes of a block. The list is a scratch buffer; the one word is 0.
+// Counts and places the codes of a block. The list is a scratch buffer; `zero` is one word, 0.
 pub fn test_block<'a>(
     h: TableHash,
     b: BlockHash,
     part: &'a [u32],
     list: &mut [u16],
-    one: &'a [u32],
+    zero: &'a [u32],
 ) -> BlockTest
     requires { ⌜ TableHashed h × ((b .multiplier < h .prime) × (Codes h (now part) × (length (now part) ≡ b .cells))) ⌝ }
     requires { ⌜ (length (now part) < 4294967296) × ((0 < length (now list)) × (length (now list) < 65536)) ⌝ }
-    requires { ⌜ now one ≡ 0 ∷ [] ⌝ }
+    requires { ⌜ now zero ≡ 0 ∷ [] ⌝ }
     ensures { λ r. ⌜ Tested h b 0 (now (part .entry)) r × (length (now (list .exit)) ≡ length (now (list .entry))) ⌝ }
 {
     if part.len() < 2 {
-        return test_few(h, b, part, one);
+        return test_few(h, b, part, zero);
     }
     test_many(h, b, part, list)
 }

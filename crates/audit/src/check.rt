@@ -106,12 +106,14 @@ fn survey_blocks(h: TableHash, words: &[u32]) -> Survey
     requires { ⌜ Ranged (h .prime) 65536 (now words) × HashOf (now words) h ⌝ }
     ensures { λ r. ⌜ Surveyed (h .prime) (now (words .entry)) r ⌝ }
 {
+    let n = wide(words[0]);
+    let c = wide(words[1]);
     let mut list = [0u16; 64];
-    let mut first = wide(words[1]);
-    let mut square = wide(words[0]);
+    let mut first = c;
+    let mut square = n;
     let mut codes: usize = 0;
-    let mut end = wide(words[1]);
-    let mut j = wide(words[0]);
+    let mut end = c;
+    let mut j = n;
     while 0 < j {
         j = j - 1;
         let start = wide(block_start(words, j));
@@ -140,7 +142,8 @@ fn settle(words: &[u32], s: Survey) -> Checked
     ensures { λ r. ⌜ checkedOf r ≡ fromSurvey (now (words .entry)) (s .first) (s .square) (s .codes) ⌝ }
 {
     let n = wide(words[0]);
-    if s.first < wide(words[1]) {
+    let c = wide(words[1]);
+    if s.first < c {
         return Checked::Misplaced(s.first as u32);
     }
     if s.square < n {

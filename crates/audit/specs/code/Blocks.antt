@@ -37,8 +37,8 @@ unfoldable pub codePlaces : List ℕ → ℕ → List ℕ
 codePlaces part zero = []
 codePlaces part (suc t) = codePlaces part t ++ cond (eqb (getD part t 0) 0) [] (t ∷ [])
 
-abbrev pub orOne : List ℕ → List ℕ → List ℕ
-orOne part one = cond (eqb (length part) 0) one part
+abbrev pub orZero : List ℕ → List ℕ → List ℕ
+orZero part zeros = cond (eqb (length part) 0) zeros part
 
 -- the table's hash is ready for numbers below the prime
 pub record TableHashed (h : TableHash) : Type 0 where

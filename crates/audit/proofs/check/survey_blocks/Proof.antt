@@ -22,16 +22,15 @@ record Inv (p : ℕ) (words list : List ℕ) (first square codes end j : ℕ) : 
   surveyed : SurveyedFrom p words first square codes j
 
 abbrev Inv-loop : tie.InvT-loop
-Inv-loop h words list₀ first₀ square₀ codes₀ end₀ j₀ list first square codes end j = Inv (h .prime) words list first square codes end j
+Inv-loop h words n c list₀ first₀ square₀ codes₀ end₀ j₀ list first square codes end j = Inv (h .prime) words list first square codes end j
 
 abbrev μ-loop : tie.MeasureT-loop
-μ-loop h words list₀ first₀ square₀ codes₀ end₀ j₀ list first square codes end j = j
+μ-loop h words n c list₀ first₀ square₀ codes₀ end₀ j₀ list first square codes end j = j
 
 loop-holds : tie.Need-loop-holds Inv-loop μ-loop
 loop-holds c =
-    let s = c .before .before .before .before .before .before .before .before .before in
-    let n = c .wide4 .ensures .value in
-    rw (c .before .before .before .before .before .before .wide .ensures .value, c .before .before .before .before .wide2 .ensures .value, c .before .before .wide3 .ensures .value, n)
+    let s = c .before .before .before .before .before in
+    rw (c .before .before .wide .ensures .value, c .wide2 .ensures .value)
     (record {
       long = refl;
       end-at = sym (edge-last (s .args .words .now) (s .pre .0 .starts));
@@ -39,12 +38,12 @@ loop-holds c =
     })
 
 -- the block before j
-module _ (c : tie.After-wide5 Inv-loop μ-loop) where
+module _ (c : tie.After-wide3 Inv-loop μ-loop) where
   abbrev l : tie.In-loop Inv-loop μ-loop
   l = c .before .before
 
   abbrev s : tie.Start Inv-loop μ-loop
-  s = l .before .before .before .before .before .before .before .before .before .before .before
+  s = l .before .before .before .before .before .before .before
 
   abbrev words : List ℕ
   words = s .args .words .now
@@ -55,15 +54,15 @@ module _ (c : tie.After-wide5 Inv-loop μ-loop) where
   below : j < codeCount words
   below = omega (arith, l .before .loop .inv .surveyed .within)
 
-  start-is : c .wide5 .result ≡ blockStart words j
-  start-is = c .wide5 .ensures .value ∙ c .before .block-start .ensures
+  start-is : c .wide3 .result ≡ blockStart words j
+  start-is = c .wide3 .ensures .value ∙ c .before .block-start .ensures
 
   end-is : l .before .loop .end ≡ blockEnd words j
   end-is =
       let next : j + 1 ≡ l .before .loop .j = omega arith in
       l .before .loop .inv .end-at ∙ sym (ap (edge words) next)
 
-  rises : c .wide5 .result ≤ l .before .loop .end
+  rises : c .wide3 .result ≤ l .before .loop .end
   rises = omega (arith, start-is, end-is, start-le-end words (s .pre .0 .starts) j below)
 
   small : cellCount words < 4294967296
@@ -79,7 +78,7 @@ test-part-requires c κs =
 
 -- after its test
 module _ (c : tie.After-test-part Inv-loop μ-loop) where
-  abbrev b : tie.After-wide5 Inv-loop μ-loop
+  abbrev b : tie.After-wide3 Inv-loop μ-loop
   b = c .before .before
 
   abbrev r : BlockTest
@@ -87,13 +86,13 @@ module _ (c : tie.After-test-part Inv-loop μ-loop) where
 
   next :
       SurveyedFrom (s b .args .h .prime) (words b)
-      (cond (ltb (r .first) (l b .before .loop .end - b .wide5 .result)) (b .wide5 .result + r .first) (l b .before .loop .first))
-      (cond (not (eqb (l b .before .loop .end - b .wide5 .result) (r .codes * r .codes))) (j b) (l b .before .loop .square))
+      (cond (ltb (r .first) (l b .before .loop .end - b .wide3 .result)) (b .wide3 .result + r .first) (l b .before .loop .first))
+      (cond (not (eqb (l b .before .loop .end - b .wide3 .result) (r .codes * r .codes))) (j b) (l b .before .loop .square))
       (l b .before .loop .codes + r .codes)
       (j b)
   next =
       surveyed-read (s b .args .h .prime) (words b) (s b .pre .0 .starts) (s b .pre .0 .sized .whole) (l b .loop-test .taken)
-      (l b .before .loop .inv .surveyed) r (c .test-part .ensures .0) (b .wide5 .result) (l b .before .loop .end) (start-is b) (end-is b)
+      (l b .before .loop .inv .surveyed) r (c .test-part .ensures .0) (b .wide3 .result) (l b .before .loop .end) (start-is b) (end-is b)
 
   first-le : r .first ≤ blockEnd (words b) (j b) - blockStart (words b) (j b)
   first-le =
@@ -126,7 +125,7 @@ loop-again c =
 
 returns : tie.Need-returns Inv-loop μ-loop
 returns c =
-    let s = c .before .before .before .before .before .before .before .before .before .before .before in
+    let s = c .before .before .before .before .before .before .before in
     surveyed-all (s .args .h .prime) (s .args .words .now) (s .pre .0 .starts) (s .pre .0 .sized .whole) (c .loop-test .left)
     (c .before .loop .inv .surveyed)
 
@@ -140,15 +139,11 @@ survey-blocks-spec =
     (λ c κs. search needs)
     (λ c. omega (arith, c .before .before .before .before .pre .0 .sized .whole))
     (λ c κs. search needs)
-    (λ c. omega (arith, c .before .before .before .before .before .before .pre .0 .sized .whole))
-    (λ c κs. search needs)
-    (λ c. omega (arith, c .before .before .before .before .before .before .before .before .pre .0 .sized .whole))
-    (λ c κs. search needs)
     loop-holds
     (λ c. search needs)
     (λ c κs.
     record {
-      whole = c .before .before .before .before .before .before .before .before .before .before .before .pre .0 .sized .whole;
+      whole = c .before .before .before .before .before .before .before .pre .0 .sized .whole;
       below = omega (arith, c .before .loop .inv .surveyed .within);
     })
     (λ c κs. search needs)
