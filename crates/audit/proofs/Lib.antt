@@ -4,6 +4,10 @@ pub mod Bounds
 pub mod Counting
 pub mod Partition
 pub mod Passing
+pub mod FirstFrom
+pub mod Places
+pub mod Few
+pub mod Cells
 pub mod Parts
 pub mod Survey
 pub mod WellFormed

@@ -2,20 +2,26 @@
 -- place there: a block without cells has none of these places.
 use Prim.Native.Nat.{ℕ, _+_, _*_, _-_, _<_, _≤_}
 use mathlib.Core.Bool.{Bool, not, _&&_, _||_}
-use mathlib.Core.List.{List}
-use mathlib.Core.Path.{_≡_, refl, sym, ap, _∙_}
+use mathlib.Core.List.{List, [], _∷_}
+use mathlib.Core.Path.{_≡_, refl, sym, ap, subst, _∙_}
 use native.Mathlib.Decide.{ℕ-discrete}
+use native.Mathlib.Nat.{zero-add}
 use native.Mathlib.Omega.{arith}
 use borrow.Author.Tests.{eq-eqb, ne-eqb}
 use lib.Dec.{eqb}
 use lib.ListN.{length, getD, take, drop, length-drop}
-use lib.Seq.{getD-take, getD-drop, length-take-le}
+use lib.Seq.{drop-cons, getD-take, getD-drop, length-take-le}
 use Rattle.hash.specs.Hash.{hashOf}
-use Rattle.table.specs.Words.{codeCount, multiplier, total, blockStart, blockEnd, blockMultiplier, cellCode, blockOf, cellIn, ownCell}
+use Rattle.table.specs.Answers.{firstOf}
+use Rattle.table.proofs.First.{first-ext}
+use Rattle.table.specs.Words.{codeCount, cellCount, multiplier, total, blockStart, blockEnd, blockMultiplier, cellCode, blockOf, cellIn, ownCell}
 use Rattle.audit.specs.Check.{misplaced, blockCodes}
 use Rattle.audit.specs.code.Starts.{Starts}
 use Rattle.audit.proofs.Partition.{block-lt, edge-start, apart, end-within, cell-lt}
-use Rattle.audit.specs.code.Blocks.{strange, strangeAt}
+use Rattle.audit.specs.code.Blocks.{notOwn, misplacedFrom, Codes, Tested, HashOf, BlockHashOf, PartTested}
+use Rattle.audit.specs.declared.blocks.TableHash.{TableHash}
+use Rattle.audit.specs.declared.blocks.BlockHash.{BlockHash}
+use Rattle.audit.specs.declared.blocks.BlockTest.{BlockTest}
 
 eqb-add : (s h t : ℕ) → eqb (s + h) (s + t) ≡ eqb h t
 eqb-add s h t =
@@ -53,14 +59,6 @@ module _ (p : ℕ) (words : List ℕ) (s : Starts words) (j t a : ℕ) (lj : j <
             ])
       ]
 
-  strange-is :
-      strange p (multiplier words) (codeCount words) j (blockMultiplier words j) (blockEnd words j - blockStart words j) t a
-      ≡ (not (eqb a 0) && (eqb (blockStart words (blockOf p words a)) (blockEnd words (blockOf p words a))
-      || not (eqb (ownCell p words a) (blockStart words j + t))))
-  unfolding strange blockOf ownCell
-  strange-is = ap (λ (x : Bool). not (eqb a 0) && x)
-      (own-place (blockOf p words a) (block-lt p words a (omega arith)))
-
 -- the part of the words that is handed on for block j
 module _ (words : List ℕ) (s : Starts words) (whole : total words ≤ length words) (j : ℕ) (lj : j < codeCount words) where
   pub part-length : length (blockCodes words j) ≡ blockEnd words j - blockStart words j
@@ -68,18 +66,39 @@ module _ (words : List ℕ) (s : Starts words) (whole : total words ≤ length w
       length-take-le (blockEnd words j - blockStart words j) (drop (3 + 2 * codeCount words + blockStart words j) words)
       (rw length-drop (omega (arith, end-within words s j lj)))
 
-  part-at : (t : ℕ) → t < blockEnd words j - blockStart words j → getD (blockCodes words j) t 0 ≡ cellCode words (blockStart words j + t)
+  pub part-at : (t : ℕ) → t < blockEnd words j - blockStart words j → getD (blockCodes words j) t 0 ≡ cellCode words (blockStart words j + t)
   part-at t l = rw (getD-take, getD-drop) (ap (λ (i : ℕ). getD words i 0) (omega arith))
 
-  pub strange-misplaced :
-      (p t : ℕ) → t < length (blockCodes words j)
-      → strangeAt p (multiplier words) (codeCount words) j (blockMultiplier words j) (blockCodes words j) t
-      ≡ misplaced p words (blockStart words j + t)
-  unfolding strangeAt misplaced
-  strange-misplaced p t l =
-      let l : t < blockEnd words j - blockStart words j = rw part-length at l in
-      rw (part-length, part-at t l)
-      (strange-is p words s j t (cellCode words (blockStart words j + t)) lj l)
+  pub part-codes : (h : TableHash) → ((i : ℕ) → i < cellCount words → cellCode words i < h .prime) → Codes h (blockCodes words j)
+  part-codes h each =
+      record {
+        each = λ t l.
+            let l : t < blockEnd words j - blockStart words j = rw part-length at l in
+            subst (λ (x : ℕ). x < h .prime) (sym (part-at t l)) (each (blockStart words j + t) (omega (arith, end-within words s j lj)));
+      }
+
+  -- h and b are the hashes of the table and of block j
+  module _ (h : TableHash) (b : BlockHash) (ht : HashOf words h) (hb : BlockHashOf words j b) where
+    part-misplaced :
+        (t : ℕ) → t < blockEnd words j - blockStart words j
+        → misplacedFrom h b 0 (blockCodes words j) t ≡ misplaced (h .prime) words (blockStart words j + t)
+    unfolding misplacedFrom notOwn misplaced blockOf ownCell
+    part-misplaced t l =
+        rw (part-at t l, zero-add t, ht .multiplier-is, ht .blocks-is, hb .number-is, hb .multiplier-is, hb .cells-is)
+        (ap (λ (x : Bool). not (eqb (cellCode words (blockStart words j + t)) 0) && x)
+        (own-place (h .prime) words s j t (cellCode words (blockStart words j + t)) lj l
+        (blockOf (h .prime) words (cellCode words (blockStart words j + t)))
+        (block-lt (h .prime) words (cellCode words (blockStart words j + t)) (omega arith))))
+
+    pub part-tested : (r : BlockTest) → Tested h b 0 (blockCodes words j) r → PartTested (h .prime) words j r
+    part-tested r test =
+        record {
+          first =
+              test .first
+              ∙ ap (λ (w : ℕ). firstOf w (misplacedFrom h b 0 (blockCodes words j))) part-length
+              ∙ first-ext (blockEnd words j - blockStart words j) _ _ part-misplaced;
+          codes = test .codes;
+        }
 
 -- as the code hands it on: n, the start and the end were read before
 pub part-is :
@@ -88,3 +107,8 @@ pub part-is :
 part-is words j n start end en es ee =
     let cells : (3 + 2 * n + end) - (3 + 2 * n + start) ≡ blockEnd words j - blockStart words j = omega arith in
     rw (cells, en, es)
+
+-- the word where block 0 starts, by itself
+pub first-word : (words : List ℕ) → Starts words → total words ≤ length words → 0 < codeCount words → take (4 - 3) (drop 3 words) ≡ 0 ∷ []
+first-word words s whole some =
+    rw (drop-cons words 3 0 (omega arith)) (ap (λ (x : ℕ). x ∷ []) (s .first some))

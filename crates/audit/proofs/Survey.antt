@@ -1,128 +1,129 @@
--- One pass over the blocks of a table: before block j no code of a cell before it is misplaced, the first block before it of the wrong size is
--- known, and the codes before it are counted.
-use Prim.Native.Nat.{ℕ, _+_, _*_, _-_, _<_, _≤_}
-use mathlib.Core.Bool.{Bool, false, not}
+-- One pass over the blocks of a table, from the last to the first: from block j on, the first misplaced code and the first block of the wrong size
+-- are known, and the codes are counted.
+use Prim.Native.Nat.{ℕ, suc, _+_, _*_, _-_, _<_, _≤_}
+use mathlib.Core.Bool.{Bool, cond, not}
 use mathlib.Core.List.{List, [], _∷_}
 use mathlib.Core.Path.{_≡_, refl, sym, ap, subst, _∙_}
-use native.Mathlib.Decide.{decLt}
 use native.Mathlib.Nat.{add-sub-of-le}
+use native.Mathlib.Numerals.{add-one}
 use native.Mathlib.Omega.{arith}
-use borrow.Author.Tests.{lt-ltb, le-ltb, eq-eqb}
-use lib.Dec.{eqb}
+use lib.Dec.{eqb, ltb}
 use lib.ListN.{length, take, drop, length-take}
 use lib.Seq.{drop-drop}
-use Rattle.table.specs.Answers.{given, refused, firstOf}
-use Rattle.table.specs.Words.{codeCount, cellCount, multiplier, total, blockStart, blockEnd, blockMultiplier}
-use Rattle.table.proofs.First.{Below, First, first-is, first-found, first-none, first-next}
-use Rattle.audit.specs.Check.{misplaced, badSquare, codesIn, blockCodes}
-use Rattle.audit.specs.code.From.{fromSquares, fromPlaces}
+use Rattle.table.specs.Answers.{given, firstOf}
+use Rattle.table.specs.Words.{codeCount, cellCount, total, blockStart, blockEnd}
+use Rattle.table.proofs.First.{first-is}
+use Rattle.audit.specs.Check.{misplaced, badSquare, codesIn, blockCodes, allCodes}
+use Rattle.audit.specs.code.Blocks.{PartTested, Surveyed}
+use Rattle.audit.specs.code.From.{fromSurvey, fromPlaces}
 use Rattle.audit.specs.code.Starts.{Starts}
-use Rattle.audit.specs.code.Blocks.{strangeAt, firstNext, PartRead}
-use Rattle.audit.specs.declared.check.Part.{Part}
+use Rattle.audit.specs.declared.blocks.BlockTest.{BlockTest}
+use Rattle.audit.specs.declared.check.Survey.{Survey}
 use Rattle.audit.proofs.Counting.{codes-take, codes-le}
-use Rattle.audit.proofs.Partition.{edge, edge-start, edge-zero, edge-last, edge-within, start-le-end, end-within}
-use Rattle.audit.proofs.Parts.{part-length, strange-misplaced}
+use Rattle.audit.proofs.FirstFrom.{FirstFrom, from-none, from-next, from-part, from-all}
+use Rattle.audit.proofs.Partition.{edge, edge-start, edge-zero, edge-last, start-le-end, end-within}
 
-pub record Surveyed (p : ℕ) (words : List ℕ) (j square codes : ℕ) : Type 0 where
-  pub placed : Below (misplaced p words) (edge words j)
-  pub squares : square ≡ firstOf j (badSquare words)
-  pub counted : codes ≡ codesIn (take (edge words j) (drop (3 + 2 * codeCount words) words))
+pub record SurveyedFrom (p : ℕ) (words : List ℕ) (first square codes j : ℕ) : Type 0 where
+  pub within : j ≤ codeCount words
+  pub placed : FirstFrom (edge words j) (cellCount words) (misplaced p words) first
+  pub squares : FirstFrom j (codeCount words) (badSquare words) square
+  pub counted : codes + codesIn (take (edge words j) (drop (3 + 2 * codeCount words) words)) ≡ codesIn (allCodes words)
 
-pub surveyed-none : (p : ℕ) (words : List ℕ) → Starts words → Surveyed p words 0 0 0
-unfolding firstOf codesIn
-surveyed-none p words s =
-    record {
-      placed = λ i l. absurd (omega (arith, edge-zero words s));
-      squares = refl;
-      counted = rw (edge-zero words s);
-    }
-
--- block j, whose part is read
-pub record Turn (p : ℕ) (words : List ℕ) (j square codes : ℕ) (r : Part) : Type 0 where
-  pub starts : Starts words
-  pub whole : total words ≤ length words
-  pub below : j < codeCount words
-  pub before : Surveyed p words j square codes
-  pub read : PartRead p words j r
-
-module _ {p : ℕ} {words : List ℕ} {j square codes : ℕ} {r : Part} (turn : Turn p words j square codes r) where
-  abbrev test : ℕ → Bool
-  test = strangeAt p (multiplier words) (codeCount words) j (blockMultiplier words j) (blockCodes words j)
-
-  is-first : First (length (blockCodes words j)) test (r .first)
-  is-first = rw (turn .read .test .first) (first-is (length (blockCodes words j)) test)
-
-  rises : blockStart words j ≤ blockEnd words j
-  rises = start-le-end words (turn .starts) j (turn .below)
-
-  cells-are : length (blockCodes words j) ≡ r .cells
-  cells-are = part-length words (turn .starts) (turn .whole) j (turn .below) ∙ sym (turn .read .cells)
-
-  same : (t : ℕ) → t < r .cells → test t ≡ misplaced p words (blockStart words j + t)
-  same t l = strange-misplaced words (turn .starts) (turn .whole) j (turn .below) p t (omega (arith, cells-are))
-
-  pub part-within : r .start + r .cells ≤ cellCount words
-  part-within = omega (arith, turn .read .start, turn .read .cells, rises, end-within words (turn .starts) j (turn .below))
-
-  pub part-codes : r .codes ≤ r .cells
-  part-codes = omega (arith, turn .read .test .codes, codes-le (blockCodes words j), cells-are)
-
-  -- no place below the first strange code has one, so no cell before it has a misplaced one
-  below-first : Below (misplaced p words) (blockStart words j + r .first)
-  below-first i l =
-      elim (decLt i (blockStart words j)) [
-        | yes l′ ↦ turn .before .placed i (omega (arith, edge-start words (turn .starts) j (turn .below)))
-        | no ge ↦
-            let t : ℕ = i - blockStart words j in
-            subst (λ (x : ℕ). misplaced p words x ≡ false) (omega arith)
-            (sym (same t (omega (arith, is-first .within, cells-are))) ∙ is-first .below t (omega arith))
-      ]
-
-  pub surveyed-found : r .first < r .cells → refused 19 (r .start + r .first) ≡ fromPlaces p words
-  unfolding fromPlaces
-  surveyed-found l =
-      let within : blockStart words j + r .first < cellCount words = omega (arith, turn .read .start, part-within) in
-      let found : firstOf (cellCount words) (misplaced p words) ≡ blockStart words j + r .first
-      = first-found (cellCount words) (misplaced p words) (blockStart words j + r .first) within below-first
-      (sym (same (r .first) l) ∙ is-first .holds (omega (arith, cells-are))) in
-      rw (turn .read .start, found, lt-ltb _ _ within)
-
-  pub surveyed-next :
-      r .cells ≤ r .first
-      → Surveyed p words (j + 1) (firstNext square j (not (eqb (r .cells) (r .codes * r .codes)))) (codes + r .codes)
-  unfolding badSquare
-  surveyed-next l =
-      let base : ℕ = 3 + 2 * codeCount words in
-      let start : ℕ = blockStart words j in
-      let w : ℕ = blockEnd words j - start in
-      let upto : ℕ → ℕ = λ (x : ℕ). codesIn (take x (drop base words)) in
+module _ (p : ℕ) (words : List ℕ) (s : Starts words) (whole : total words ≤ length words) where
+  pub surveyed-none : SurveyedFrom p words (cellCount words) (codeCount words) 0 (codeCount words)
+  surveyed-none =
+      let last = edge-last words s in
       record {
-        placed = λ i lt. below-first i (omega (arith, turn .read .cells));
-        squares = rw (turn .before .squares, turn .read .cells, turn .read .test .codes) (sym (first-next j (badSquare words)));
-        counted =
-            omega (
-              arith,
-              turn .before .counted,
-              turn .read .test .codes,
-              codes-take start w (drop base words),
-              ap upto (add-sub-of-le rises),
-              ap upto (edge-start words (turn .starts) j (turn .below)),
-              ap (λ (l : List ℕ). codesIn (take w l)) (drop-drop start base words),
-            );
+        within = omega arith;
+        placed = subst (λ (i : ℕ). FirstFrom i (cellCount words) (misplaced p words) (cellCount words)) (sym last) (from-none _ _);
+        squares = from-none _ _;
+        counted = omega (arith, ap (λ (i : ℕ). codesIn (take i (drop (3 + 2 * codeCount words) words))) last);
       }
 
-pub surveyed-codes :
-    {p : ℕ} {words : List ℕ} {j square codes : ℕ} → Starts words → j ≤ codeCount words → Surveyed p words j square codes → codes ≤ cellCount words
-surveyed-codes {p} {words} {j} s l before =
-    let cells = drop (3 + 2 * codeCount words) words in
-    omega (arith, before .counted, codes-le (take (edge words j) cells), length-take (edge words j) cells, edge-within words s j l)
+  -- one block more, whose part is tested
+  module _ {first square codes j : ℕ} (positive : 0 < j) (before : SurveyedFrom p words first square codes j) (r : BlockTest) (test : PartTested p words (j - 1) r) where
+    abbrev start : ℕ
+    start = blockStart words (j - 1)
 
--- after the last block
-pub surveyed-all :
-    {p : ℕ} {words : List ℕ} {square codes : ℕ} → Starts words → Surveyed p words (codeCount words) square codes
-    → fromSquares words square codes ≡ fromPlaces p words
+    abbrev w : ℕ
+    w = blockEnd words (j - 1) - start
+
+    below : j - 1 < codeCount words
+    below = omega (arith, before .within)
+
+    rises : start ≤ blockEnd words (j - 1)
+    rises = start-le-end words s (j - 1) below
+
+    -- the block ends where the one after it starts
+    end-is : edge words j ≡ start + w
+    end-is =
+        let next : (j - 1) + 1 ≡ j = omega arith in
+        sym (ap (edge words) next) ∙ sym (add-sub-of-le rises)
+
+    pub first-within : r .first ≤ w
+    first-within = omega (arith, test .first, first-is w (λ t. misplaced p words (start + t)) .within)
+
+    surveyed-next :
+        SurveyedFrom p words (cond (ltb (r .first) w) (start + r .first) first) (cond (not (eqb w (r .codes * r .codes))) (j - 1) square)
+        (codes + r .codes) (j - 1)
+    unfolding badSquare
+    surveyed-next =
+        let at : edge words (j - 1) ≡ start = edge-start words s (j - 1) below in
+        let base : ℕ = 3 + 2 * codeCount words in
+        let upto : ℕ → ℕ = λ (x : ℕ). codesIn (take x (drop base words)) in
+        let next : j ≡ suc (j - 1) = omega arith in
+        record {
+          within = omega (arith, before .within);
+          placed =
+              subst (λ (i : ℕ). FirstFrom i (cellCount words) (misplaced p words) (cond (ltb (r .first) w) (start + r .first) first)) (sym at)
+              (from-part start w (r .first) (omega (arith, rises, end-within words s (j - 1) below)) (test .first)
+              (subst (λ (i : ℕ). FirstFrom i (cellCount words) (misplaced p words) first) end-is (before .placed)));
+          squares =
+              rw (test .codes)
+              (from-next (j - 1) below (subst (λ (i : ℕ). FirstFrom i (codeCount words) (badSquare words) square) next (before .squares)));
+          counted =
+              omega (
+                arith,
+                before .counted,
+                test .codes,
+                codes-take start w (drop base words),
+                ap upto end-is,
+                ap upto at,
+                ap (λ (l : List ℕ). codesIn (take w l)) (drop-drop start base words),
+              );
+        }
+
+    -- as the code has it: start and end were read before
+    pub surveyed-read :
+        (from to : ℕ) → from ≡ start → to ≡ blockEnd words (j - 1)
+        → SurveyedFrom p words (cond (ltb (r .first) (to - from)) (from + r .first) first)
+        (cond (not (eqb (to - from) (r .codes * r .codes))) (j - 1) square)
+        (codes + r .codes)
+        (j - 1)
+    surveyed-read from to ef et = rw (ef, et) surveyed-next
+
+  pub surveyed-count : {first square codes j : ℕ} → SurveyedFrom p words first square codes j → codes ≤ cellCount words
+  surveyed-count t = omega (arith, t .counted, codes-le (allCodes words), length-take (cellCount words) (drop (3 + 2 * codeCount words) words))
+
+  -- after the first block
+  pub surveyed-all : {first square codes j : ℕ} → j ≤ 0 → SurveyedFrom p words first square codes j → Surveyed p words (record { first = first; square = square; codes = codes })
+  unfolding codesIn
+  surveyed-all {first} {square} {codes} {j} none all =
+      let z : j ≡ 0 = omega arith in
+      let all : SurveyedFrom p words first square codes 0 = subst (SurveyedFrom p words first square codes) z all in
+      let at = edge-zero words s in
+      record {
+        first = from-all (subst (λ (i : ℕ). FirstFrom i (cellCount words) (misplaced p words) first) at (all .placed));
+        square = from-all (all .squares);
+        codes = omega (arith, all .counted, ap (λ (i : ℕ). codesIn (take i (drop (3 + 2 * codeCount words) words))) at);
+      }
+
+-- what is surveyed settles the answer from 19 on
+pub surveyed-answer : {p : ℕ} {words : List ℕ} {r : Survey} → Surveyed p words r → fromSurvey words (r .first) (r .square) (r .codes) ≡ fromPlaces p words
 unfolding fromPlaces
-surveyed-all {p} {words} s all =
-    let none : firstOf (cellCount words) (misplaced p words) ≡ cellCount words
-    = first-none (cellCount words) (misplaced p words) (λ i l. all .placed i (omega (arith, edge-last words s))) in
-    rw (none, le-ltb (cellCount words) (cellCount words) (omega arith), all .squares, all .counted, edge-last words s) refl
+surveyed-answer s = rw (s .first, s .square, s .codes) refl
+
+-- a table without blocks is accepted
+pub empty-accepted : (p : ℕ) (words : List ℕ) → codeCount words ≡ 0 → cellCount words ≡ 0 → given (0 ∷ 3 ∷ []) ≡ fromPlaces p words
+unfolding fromPlaces firstOf codesIn
+empty-accepted p words en ec = rw (en, ec) refl

@@ -6,11 +6,14 @@ ghost use Rattle.table.specs.Words.{codeCount, total};
 ghost use Rattle.table.specs.code.Sized.{Sized};
 ghost use Rattle.audit.specs.Check.{checkOf};
 ghost use Rattle.audit.specs.Checked.{checkedOf};
-ghost use Rattle.audit.specs.code.From.{fromSquares, fromPlaces, fromStarts};
+ghost use Rattle.audit.specs.code.From.{fromSurvey, fromPlaces, fromStarts};
 ghost use Rattle.audit.specs.code.Starts.{Starts};
-ghost use Rattle.audit.specs.code.Blocks.{PartRead};
+ghost use Rattle.audit.specs.code.Blocks.{Ranged, HashOf, ExtentOf, PartTested, Surveyed};
 ghost use Rattle.table.specs.Limits.{mostPairs};
-use crate::blocks::first_next;
+use crate::blocks::BlockHash;
+use crate::blocks::BlockTest;
+use crate::blocks::TableHash;
+use crate::blocks::select;
 use crate::blocks::test_block;
 use crate::ranges::first_bad_cell;
 use crate::ranges::first_bad_multiplier;
@@ -18,7 +21,6 @@ use crate::ranges::first_bad_start;
 use table::limits::MOST_PAIRS;
 use table::numbers::wide;
 use table::words::bad_multiplier;
-use table::words::block_end;
 use table::words::block_multiplier;
 use table::words::block_start;
 use table::words::too_many_cells;
@@ -53,74 +55,117 @@ pub enum Checked {
     WrongCount(u32),
 }
 
-// One block of a table: where it starts, its cells, and what its test finds.
-pub struct Part {
+// Block `number`: from cell start to before cell end.
+pub struct Extent {
+    pub number: usize,
     pub start: usize,
-    pub cells: usize,
+    pub end: usize,
+}
+
+// What one pass over the blocks finds: the first misplaced code, c where there is none; the first block of the wrong size, n where there is none;
+// and the number of codes.
+pub struct Survey {
     pub first: usize,
+    pub square: usize,
     pub codes: usize,
 }
 
-// Hands the codes of block j on to its own test, as the part of the words between its start and its end.
-fn part_at(p: u32, words: &[u32], j: usize) -> Part
-    requires { ⌜ (1 ≤ p) × (Sized p 65536 (now words) × (Starts (now words) × (j < codeCount (now words)))) ⌝ }
-    ensures { λ r. ⌜ PartRead p (now (words .entry)) j r ⌝ }
+// The hash of a table's codes into its blocks.
+fn table_hash(p: u32, words: &[u32]) -> TableHash
+    requires { ⌜ Sized p 65536 (now words) × (0 < codeCount (now words)) ⌝ }
+    ensures { λ r. ⌜ HashOf (now (words .entry)) r × (r .prime ≡ p) ⌝ }
 {
-    let before = 3 + 2 * wide(words[0]);
-    let start = wide(block_start(words, j));
-    let end = wide(block_end(words, j));
-    let a = before + start;
-    let e = before + end;
-    let b = test_block(
-        p,
-        words[2],
-        words[0],
-        j as u32,
-        block_multiplier(words, j),
-        &words[a..e],
-    );
-    Part {
-        start,
-        cells: end - start,
-        first: b.first,
-        codes: b.codes,
+    TableHash {
+        prime: p,
+        multiplier: words[2],
+        blocks: words[0],
+        reciprocal: hash::reciprocal(p, words[0]),
     }
 }
 
-// From 20 on, with the first block of the wrong size and the number of codes.
-fn settle(words: &[u32], square: usize, codes: usize) -> Checked
-    requires { ⌜ (3 ≤ length (now words)) × ((total (now words) < 4294967296) × (codes < 4294967296)) ⌝ }
-    ensures { λ r. ⌜ checkedOf r ≡ fromSquares (now (words .entry)) square codes ⌝ }
+// Hands the codes of a block on to its own test, as the part of the words between its start and its end. Block 0 starts at 0: that word is the 0
+// read where a block has no cells.
+fn test_part(h: TableHash, words: &[u32], x: Extent, list: &mut [u16]) -> BlockTest
+    requires { ⌜ Ranged (h .prime) 65536 (now words) × (HashOf (now words) h × ExtentOf (now words) x) ⌝ }
+    requires { ⌜ (0 < length (now list)) × (length (now list) < 65536) ⌝ }
+    ensures { λ r. ⌜ PartTested (h .prime) (now (words .entry)) (x .number) r × (length (now (list .exit)) ≡ length (now (list .entry))) ⌝ }
+{
+    let number = x.number;
+    let before = 3 + 2 * wide(h.blocks);
+    let a = before + x.start;
+    let e = before + x.end;
+    let b = BlockHash {
+        number: number as u32,
+        multiplier: block_multiplier(words, number),
+        cells: (x.end - x.start) as u32,
+    };
+    test_block(h, b, &words[a..e], list, &words[3..4])
+}
+
+// One pass over the blocks, from the last to the first: where a block ends is where the one seen before it starts, and what is found last comes
+// first in the table.
+fn survey_blocks(h: TableHash, words: &[u32]) -> Survey
+    requires { ⌜ Ranged (h .prime) 65536 (now words) × HashOf (now words) h ⌝ }
+    ensures { λ r. ⌜ Surveyed (h .prime) (now (words .entry)) r ⌝ }
 {
     let n = wide(words[0]);
-    if square < n {
-        return Checked::NotSquare(square as u32);
+    let c = wide(words[1]);
+    let mut list = [0u16; 64];
+    let mut first = c;
+    let mut square = n;
+    let mut codes: usize = 0;
+    let mut end = c;
+    let mut j = n;
+    while 0 < j {
+        j = j - 1;
+        let start = wide(block_start(words, j));
+        let x = Extent {
+            number: j,
+            start,
+            end,
+        };
+        let b = test_part(h, words, x, &mut list);
+        let cells = end - start;
+        first = select(b.first < cells, start + b.first, first);
+        square = select(cells != b.codes * b.codes, j, square);
+        codes = codes + b.codes;
+        end = start;
     }
-    if codes != n {
-        return Checked::WrongCount(codes as u32);
+    Survey {
+        first,
+        square,
+        codes,
+    }
+}
+
+// From 19 on, with what the pass over the blocks found.
+fn settle(words: &[u32], s: Survey) -> Checked
+    requires { ⌜ (3 ≤ length (now words)) × ((total (now words) < 4294967296) × (s .codes < 4294967296)) ⌝ }
+    ensures { λ r. ⌜ checkedOf r ≡ fromSurvey (now (words .entry)) (s .first) (s .square) (s .codes) ⌝ }
+{
+    let n = wide(words[0]);
+    let c = wide(words[1]);
+    if s.first < c {
+        return Checked::Misplaced(s.first as u32);
+    }
+    if s.square < n {
+        return Checked::NotSquare(s.square as u32);
+    }
+    if s.codes != n {
+        return Checked::WrongCount(s.codes as u32);
     }
     Checked::Accepted(words[0], total(words) as u32)
 }
 
-// From 19 on: one pass over the blocks. A misplaced code ends it; the first block of the wrong size and the number of codes wait for its end.
+// From 19 on.
 fn check_places(p: u32, words: &[u32]) -> Checked
-    requires { ⌜ (1 ≤ p) × (Sized p 65536 (now words) × Starts (now words)) ⌝ }
+    requires { ⌜ Ranged p 65536 (now words) ⌝ }
     ensures { λ r. ⌜ checkedOf r ≡ fromPlaces p (now (words .entry)) ⌝ }
 {
-    let n = wide(words[0]);
-    let mut square: usize = 0;
-    let mut codes: usize = 0;
-    let mut j: usize = 0;
-    while j < n {
-        let b = part_at(p, words, j);
-        if b.first < b.cells {
-            return Checked::Misplaced((b.start + b.first) as u32);
-        }
-        square = first_next(square, j, b.cells != b.codes * b.codes);
-        codes = codes + b.codes;
-        j = j + 1;
+    if words[0] == 0 {
+        return Checked::Accepted(0, 3);
     }
-    settle(words, square, codes)
+    settle(words, survey_blocks(table_hash(p, words), words))
 }
 
 // From 16 on.

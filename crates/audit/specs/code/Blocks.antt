@@ -1,37 +1,103 @@
 -- One block of a table by itself: what the check hands on, and what it relies on there.
-use Prim.Native.Nat.{ℕ, suc, _-_}
+use Prim.Native.Nat.{ℕ, zero, suc, _+_, _-_, _<_, _≤_}
 use mathlib.Core.Bool.{Bool, cond, not, _&&_}
-use mathlib.Core.List.{List}
+use mathlib.Core.List.{List, [], _∷_, _++_}
 use mathlib.Core.Path.{_≡_}
-use lib.Dec.{eqb, ltb}
-use lib.ListN.{length, getD}
+use lib.Dec.{eqb}
+use lib.ListN.{length, getD, take}
 use Rattle.hash.specs.Hash.{hashOf}
+use Rattle.hash.specs.code.Contract.{Ready}
 use Rattle.table.specs.Answers.{firstOf}
-use Rattle.table.specs.Words.{codeCount, multiplier, blockStart, blockEnd, blockMultiplier}
-use Rattle.audit.specs.Check.{codesIn, blockCodes}
-use Rattle.audit.specs.declared.blocks.Placed.{Placed}
-use Rattle.audit.specs.declared.check.Part.{Part}
+use Rattle.table.specs.Words.{codeCount, cellCount, multiplier, blockStart, blockEnd, blockMultiplier, cellCode}
+use Rattle.table.specs.code.Sized.{Sized}
+use Rattle.audit.specs.Check.{misplaced, badSquare, codesIn, blockCodes, allCodes}
+use Rattle.audit.specs.code.Starts.{Starts}
+use Rattle.audit.specs.declared.blocks.TableHash.{TableHash}
+use Rattle.audit.specs.declared.blocks.BlockHash.{BlockHash}
+use Rattle.audit.specs.declared.blocks.BlockTest.{BlockTest}
+use Rattle.audit.specs.declared.check.Extent.{Extent}
+use Rattle.audit.specs.declared.check.Survey.{Survey}
 
--- code a at place t of the w cells of block j is in a cell that is not its own: its block or its place is another
-unfoldable pub strange : ℕ → ℕ → ℕ → ℕ → ℕ → ℕ → ℕ → ℕ → Bool
-strange p k n j q w t a = not (eqb a 0) && not (eqb (hashOf p k n a) j && eqb (hashOf p q w a) t)
+-- code a belongs to another block than j
+unfoldable pub elsewhere : TableHash → ℕ → ℕ → Bool
+elsewhere h j a = not (eqb (hashOf (h .prime) (h .multiplier) (h .blocks) a) j)
 
--- the same of the code at place t of the block's part
-unfoldable pub strangeAt : ℕ → ℕ → ℕ → ℕ → ℕ → List ℕ → ℕ → Bool
-unfolding strange
-strangeAt p k n j q part t = strange p k n j q (length part) t (getD part t 0)
+-- place t of a block is not code a's own: the code belongs to another block, or has another place there
+unfoldable pub notOwn : TableHash → BlockHash → ℕ → ℕ → Bool
+notOwn h b t a =
+    not (eqb (hashOf (h .prime) (h .multiplier) (h .blocks) a) (b .number) && eqb (hashOf (h .prime) (b .multiplier) (b .cells) a) t)
 
--- `firstOf` of one index more, i, from that of i and from whether the test holds there
-abbrev pub firstNext : ℕ → ℕ → Bool → ℕ
-firstNext first i holds = cond (ltb first i) first (cond holds i (suc i))
+-- cell t of a part that begins at cell `from` of the block holds a code, and is not its own
+unfoldable pub misplacedFrom : TableHash → BlockHash → ℕ → List ℕ → ℕ → Bool
+unfolding notOwn
+misplacedFrom h b from part t = not (eqb (getD part t 0) 0) && notOwn h b (from + t) (getD part t 0)
 
--- what the test of block j finds in its part
-pub record Tested (p k n j q : ℕ) (part : List ℕ) (r : Placed) : Type 0 where
-  pub first : r .first ≡ firstOf (length part) (strangeAt p k n j q part)
+-- the places below t that hold a code, by rising place
+unfoldable pub codePlaces : List ℕ → ℕ → List ℕ
+codePlaces part zero = []
+codePlaces part (suc t) = codePlaces part t ++ cond (eqb (getD part t 0) 0) [] (t ∷ [])
+
+abbrev pub orZero : List ℕ → List ℕ → List ℕ
+orZero part zeros = cond (eqb (length part) 0) zeros part
+
+-- the table's hash is ready for numbers below the prime
+pub record TableHashed (h : TableHash) : Type 0 where
+  pub ready : Ready (h .prime) (h .blocks) (h .reciprocal)
+  pub below : h .multiplier < h .prime
+
+-- and a block's, for a block with cells
+pub record BlockHashed (h : TableHash) (b : BlockHash) : Type 0 where
+  pub below : b .multiplier < h .prime
+  pub positive : 0 < b .cells
+
+-- every cell holds a number below the prime
+pub record Codes (h : TableHash) (part : List ℕ) : Type 0 where
+  pub each : (t : ℕ) → t < length part → getD part t 0 < h .prime
+
+-- all places that hold a code are listed
+pub record PlacesListed (part old : List ℕ) (r : ℕ) (new : List ℕ) : Type 0 where
+  pub long : length new ≡ length old
+  pub within : r ≤ length part
+  pub codes : r ≡ codesIn part
+  pub places : take r new ≡ codePlaces part (length part)
+
+-- what the test of some cells of a block finds, from its cell `from` on
+pub record Tested (h : TableHash) (b : BlockHash) (from : ℕ) (part : List ℕ) (r : BlockTest) : Type 0 where
+  pub first : r .first ≡ firstOf (length part) (misplacedFrom h b from part)
   pub codes : r .codes ≡ codesIn part
 
--- what the check learns of block j
-pub record PartRead (p : ℕ) (words : List ℕ) (j : ℕ) (r : Part) : Type 0 where
-  pub start : r .start ≡ blockStart words j
-  pub cells : r .cells ≡ blockEnd words j - blockStart words j
-  pub test : Tested p (multiplier words) (codeCount words) j (blockMultiplier words j) (blockCodes words j) (record { first = r .first; codes = r .codes })
+-- a table that passed 12 to 18
+pub record Ranged (p limit : ℕ) (words : List ℕ) : Type 0 where
+  pub sized : Sized p limit words
+  pub starts : Starts words
+  pub multipliers : (j : ℕ) → j < codeCount words → blockMultiplier words j < p
+  pub codes : (i : ℕ) → i < cellCount words → cellCode words i < p
+
+-- h is the hash of a table's codes into its blocks, of which there are some
+pub record HashOf (words : List ℕ) (h : TableHash) : Type 0 where
+  pub hashed : TableHashed h
+  pub multiplier-is : h .multiplier ≡ multiplier words
+  pub blocks-is : h .blocks ≡ codeCount words
+
+-- b is the hash of block j's codes into its cells
+pub record BlockHashOf (words : List ℕ) (j : ℕ) (b : BlockHash) : Type 0 where
+  pub number-is : b .number ≡ j
+  pub multiplier-is : b .multiplier ≡ blockMultiplier words j
+  pub cells-is : b .cells ≡ blockEnd words j - blockStart words j
+
+-- where a block of the table starts and ends
+pub record ExtentOf (words : List ℕ) (x : Extent) : Type 0 where
+  pub below : x .number < codeCount words
+  pub start-is : x .start ≡ blockStart words (x .number)
+  pub end-is : x .end ≡ blockEnd words (x .number)
+
+-- what the test of block j finds, as cells of the table
+pub record PartTested (p : ℕ) (words : List ℕ) (j : ℕ) (r : BlockTest) : Type 0 where
+  pub first : r .first ≡ firstOf (blockEnd words j - blockStart words j) (λ t. misplaced p words (blockStart words j + t))
+  pub codes : r .codes ≡ codesIn (blockCodes words j)
+
+-- the first misplaced code, the first block of the wrong size, and the number of codes
+pub record Surveyed (p : ℕ) (words : List ℕ) (r : Survey) : Type 0 where
+  pub first : r .first ≡ firstOf (cellCount words) (misplaced p words)
+  pub square : r .square ≡ firstOf (codeCount words) (badSquare words)
+  pub codes : r .codes ≡ codesIn (allCodes words)

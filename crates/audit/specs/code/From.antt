@@ -7,19 +7,18 @@ use Rattle.table.specs.Answers.{Answer, given, refuse, refuseFirst, firstOf}
 use Rattle.table.specs.Words.{codeCount, cellCount, total}
 use Rattle.audit.specs.Check.{badStart, badBlockMultiplier, badCell, misplaced, badSquare, codesIn, allCodes}
 
--- from 20 on, with the first block of the wrong size and the number of codes
-abbrev pub fromSquares : List ℕ → ℕ → ℕ → Answer
-fromSquares words square codes =
-    refuse (ltb square (codeCount words)) 20 square
+-- from 19 on, with the first misplaced code, the first block of the wrong size and the number of codes
+abbrev pub fromSurvey : List ℕ → ℕ → ℕ → ℕ → Answer
+fromSurvey words first square codes =
+    refuse (ltb first (cellCount words)) 19 first
+    (refuse (ltb square (codeCount words)) 20 square
     (refuse (not (eqb codes (codeCount words))) 21 codes
-    (given (codeCount words ∷ total words ∷ [])))
+    (given (codeCount words ∷ total words ∷ []))))
 
--- from 19 on
 unfoldable pub fromPlaces : ℕ → List ℕ → Answer
 unfolding misplaced codesIn badSquare
 fromPlaces p words =
-    refuseFirst (cellCount words) (misplaced p words) 19
-    (fromSquares words (firstOf (codeCount words) (badSquare words)) (codesIn (allCodes words)))
+    fromSurvey words (firstOf (cellCount words) (misplaced p words)) (firstOf (codeCount words) (badSquare words)) (codesIn (allCodes words))
 
 -- from 16 on
 unfoldable pub fromStarts : ℕ → List ℕ → Answer

@@ -7,9 +7,9 @@ use borrow.Author.Needs.{needs}
 use Rattle.table.specs.Words.{codeCount, cellCount}
 use Rattle.table.specs.Answers.{firstOf}
 use Rattle.table.proofs.First.{Below, none-refused}
-use Rattle.audit.specs.Check.{badStart}
+use Rattle.audit.specs.Check.{badStart, badBlockMultiplier, badCell}
 use Rattle.audit.specs.code.From.{fromStarts}
-use Rattle.audit.proofs.Passing.{starts-pass}
+use Rattle.audit.proofs.Passing.{starts-pass, multiplier-passes, cell-passes}
 use Rattle.audit.proofs.check.check_blocks.Statement.{statement}
 use Rattle.audit.proofs.check.check_blocks.Tie as tie
 
@@ -55,10 +55,20 @@ returns-3 c =
 
 check-places-requires : tie.Need-check-places-requires
 check-places-requires c κs =
-    let start = c .before .before .before .before .before .before .before in
+    let cell = c .before .before .before in
+    let multiplier = cell .before .before in
+    let start = multiplier .before .before in
     let b = start .before .before .before .before in
     let words = b .args .words .now in
-    (b .pre .0, (b .pre .1, starts-pass words (b .pre .1 .no-cells) (passed (codeCount words) (badStart words) (omega (arith, start .first-bad-start .ensures)))))
+    let n = codeCount words in
+    let p = b .args .p in
+    record {
+      sized = b .pre .1;
+      starts = starts-pass words (b .pre .1 .no-cells) (passed n (badStart words) (omega (arith, start .first-bad-start .ensures)));
+      multipliers = λ j l.
+          multiplier-passes p words j (b .pre .0) .0 (passed n (badBlockMultiplier p words) (omega (arith, multiplier .first-bad-multiplier .ensures)) j l) .1;
+      codes = λ i l. cell-passes p words i (b .pre .0) .0 (passed (cellCount words) (badCell p words) (omega (arith, cell .first-bad-cell .ensures)) i l) .0;
+    }
 
 returns-4 : tie.Need-returns-4
 unfolding fromStarts
