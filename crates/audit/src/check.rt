@@ -15,9 +15,8 @@ use crate::blocks::BlockTest;
 use crate::blocks::TableHash;
 use crate::blocks::select;
 use crate::blocks::test_block;
-use crate::ranges::first_bad_cell;
-use crate::ranges::first_bad_multiplier;
-use crate::ranges::first_bad_start;
+use crate::ranges::Range;
+use crate::ranges::first_bad;
 use table::limits::MOST_PAIRS;
 use table::numbers::wide;
 use table::words::bad_multiplier;
@@ -174,16 +173,17 @@ fn check_blocks(p: u32, words: &[u32]) -> Checked
     ensures { λ r. ⌜ checkedOf r ≡ fromStarts p (now (words .entry)) ⌝ }
 {
     let n = wide(words[0]);
-    let start = first_bad_start(words);
+    let start = first_bad(Range::Starts, p, words, n);
     if start < n {
         return Checked::BadStart(start as u32);
     }
-    let multiplier = first_bad_multiplier(p, words);
+    let multiplier = first_bad(Range::Multipliers, p, words, n);
     if multiplier < n {
         return Checked::BadBlockMultiplier(multiplier as u32);
     }
-    let cell = first_bad_cell(p, words);
-    if cell < wide(words[1]) {
+    let c = wide(words[1]);
+    let cell = first_bad(Range::Cells, p, words, c);
+    if cell < c {
         return Checked::BadCell(cell as u32);
     }
     check_places(p, words)

@@ -1,34 +1,40 @@
-// Conditions 16 to 18 of document 01 on tables with the words that their sizes call for: each by the first block or cell of which it holds.
+// Conditions 16 to 18 of document 01 on tables with the words that their sizes call for: each by the first block or cell of which it holds. Whether
+// there is one is told of all at once, branch-free, so that many are tested together; the first is looked for only where there is one.
 ghost use Prim.Native.Nat.{_<_, _≤_};
 ghost use mathlib.Core.Path.{_≡_};
 ghost use lib.ListN.{length};
 ghost use Rattle.table.specs.Answers.{firstOf, some};
-ghost use Rattle.table.specs.Words.{codeCount, cellCount, total};
+ghost use Rattle.table.specs.Words.{total};
 ghost use Rattle.table.specs.code.Sized.{Block, Cell};
-ghost use Rattle.audit.specs.Check.{badStart, badBlockMultiplier, badCell};
+ghost use Rattle.audit.specs.Check.{badStart, badCell};
+ghost use Rattle.audit.specs.code.Ranges.{countOf, badOf};
 use table::numbers::outside;
-use table::numbers::wide;
 use table::words::block_multiplier;
 use table::words::block_start;
 use table::words::cell_code;
 use table::words::cell_schedule;
 
-// 16: block 0 does not start at 0, or a start is below the one before or above c.
+// What a condition goes over.
+pub enum Range {
+    // 16: the starts of the blocks
+    Starts,
+    // 17: their multipliers
+    Multipliers,
+    // 18: the cells
+    Cells,
+}
+
+// 16: block 0 does not start at 0, or a start is below the one before or above c. The word before the first start is k, and not looked at.
 fn bad_start(words: &[u32], j: usize) -> bool
     requires { ⌜ Block (now words) j ⌝ }
     ensures { λ r. ⌜ r ≡ badStart (now (words .entry)) j ⌝ }
 {
     let start = block_start(words, j);
-    if words[1] < start {
-        return true;
-    }
-    if j == 0 {
-        return start != 0;
-    }
-    start < block_start(words, j - 1)
+    let below = start < words[2 + j];
+    ((j == 0) & (start != 0)) | ((j != 0) & below) | (words[1] < start)
 }
 
-// 18: a code above p - 1, a schedule above 999, or exactly one of the two 0. Without a branch, so that many cells are tested at once.
+// 18: a code above p - 1, a schedule above 999, or exactly one of the two 0.
 fn bad_cell(p: u32, words: &[u32], i: usize) -> bool
     requires { ⌜ (1 ≤ p) × Cell (now words) i ⌝ }
     ensures { λ r. ⌜ r ≡ badCell p (now (words .entry)) i ⌝ }
@@ -38,105 +44,43 @@ fn bad_cell(p: u32, words: &[u32], i: usize) -> bool
     (p - 1 < code) | (999 < schedule) | ((code == 0) != (schedule == 0))
 }
 
-// 16, of any block: all are tested, without a branch.
-fn some_bad_start(words: &[u32]) -> bool
-    requires { ⌜ total (now words) ≤ length (now words) ⌝ }
-    ensures { λ r. ⌜ r ≡ some (codeCount (now (words .entry))) (badStart (now (words .entry))) ⌝ }
+// Whether the condition holds of one.
+fn bad(range: Range, p: u32, words: &[u32], i: usize) -> bool
+    requires { ⌜ (1 ≤ p) × ((total (now words) ≤ length (now words)) × (i < countOf range (now words))) ⌝ }
+    ensures { λ r. ⌜ r ≡ badOf range p (now (words .entry)) i ⌝ }
 {
-    let n = wide(words[0]);
-    if n == 0 {
-        return false;
+    match range {
+        Range::Starts => bad_start(words, i),
+        Range::Multipliers => outside(1, p - 1, block_multiplier(words, i)),
+        Range::Cells => bad_cell(p, words, i),
     }
-    let mut bad = bad_start(words, 0);
-    let mut j: usize = 1;
-    while j < n {
-        let start = block_start(words, j);
-        bad = bad | (start < block_start(words, j - 1)) | (words[1] < start);
-        j = j + 1;
-    }
-    bad
 }
 
-// 17, of any block.
-fn some_bad_multiplier(p: u32, words: &[u32]) -> bool
-    requires { ⌜ (1 ≤ p) × (total (now words) ≤ length (now words)) ⌝ }
-    ensures { λ r. ⌜ r ≡ some (codeCount (now (words .entry))) (badBlockMultiplier p (now (words .entry))) ⌝ }
+// Whether it holds of any of n.
+fn some_bad(range: Range, p: u32, words: &[u32], n: usize) -> bool
+    requires { ⌜ (1 ≤ p) × ((total (now words) ≤ length (now words)) × (n ≡ countOf range (now words))) ⌝ }
+    ensures { λ r. ⌜ r ≡ some (countOf range (now (words .entry))) (badOf range p (now (words .entry))) ⌝ }
 {
-    let n = wide(words[0]);
-    let mut bad = false;
-    let mut j: usize = 0;
-    while j < n {
-        bad = bad | outside(1, p - 1, block_multiplier(words, j));
-        j = j + 1;
-    }
-    bad
-}
-
-// 18, of any cell.
-fn some_bad_cell(p: u32, words: &[u32]) -> bool
-    requires { ⌜ (1 ≤ p) × (total (now words) ≤ length (now words)) ⌝ }
-    ensures { λ r. ⌜ r ≡ some (cellCount (now (words .entry))) (badCell p (now (words .entry))) ⌝ }
-{
-    let c = wide(words[1]);
-    let mut bad = false;
+    let mut found = false;
     let mut i: usize = 0;
-    while i < c {
-        bad = bad | bad_cell(p, words, i);
+    while i < n {
+        found = found | bad(range, p, words, i);
         i = i + 1;
     }
-    bad
+    found
 }
 
-// 16: the first block with a bad start, n where there is none.
-pub fn first_bad_start(words: &[u32]) -> usize
-    requires { ⌜ total (now words) ≤ length (now words) ⌝ }
-    ensures { λ r. ⌜ r ≡ firstOf (codeCount (now (words .entry))) (badStart (now (words .entry))) ⌝ }
+// The first of n of which it holds, n where there is none.
+pub(crate) fn first_bad(range: Range, p: u32, words: &[u32], n: usize) -> usize
+    requires { ⌜ (1 ≤ p) × ((total (now words) ≤ length (now words)) × (n ≡ countOf range (now words))) ⌝ }
+    ensures { λ r. ⌜ r ≡ firstOf (countOf range (now (words .entry))) (badOf range p (now (words .entry))) ⌝ }
 {
-    let n = wide(words[0]);
-    if !some_bad_start(words) {
+    if !some_bad(range, p, words, n) {
         return n;
-    }
-    let mut j: usize = 0;
-    while j < n {
-        if bad_start(words, j) {
-            return j;
-        }
-        j = j + 1;
-    }
-    j
-}
-
-// 17: the first block with a q outside 1 to p - 1, n where there is none.
-pub fn first_bad_multiplier(p: u32, words: &[u32]) -> usize
-    requires { ⌜ (1 ≤ p) × (total (now words) ≤ length (now words)) ⌝ }
-    ensures { λ r. ⌜ r ≡ firstOf (codeCount (now (words .entry))) (badBlockMultiplier p (now (words .entry))) ⌝ }
-{
-    let n = wide(words[0]);
-    if !some_bad_multiplier(p, words) {
-        return n;
-    }
-    let mut j: usize = 0;
-    while j < n {
-        if outside(1, p - 1, block_multiplier(words, j)) {
-            return j;
-        }
-        j = j + 1;
-    }
-    j
-}
-
-// 18: the first bad cell, c where there is none.
-pub fn first_bad_cell(p: u32, words: &[u32]) -> usize
-    requires { ⌜ (1 ≤ p) × (total (now words) ≤ length (now words)) ⌝ }
-    ensures { λ r. ⌜ r ≡ firstOf (cellCount (now (words .entry))) (badCell p (now (words .entry))) ⌝ }
-{
-    let c = wide(words[1]);
-    if !some_bad_cell(p, words) {
-        return c;
     }
     let mut i: usize = 0;
-    while i < c {
-        if bad_cell(p, words, i) {
+    while i < n {
+        if bad(range, p, words, i) {
             return i;
         }
         i = i + 1;

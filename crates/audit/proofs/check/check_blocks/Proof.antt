@@ -22,7 +22,7 @@ unfolding fromStarts
 returns c =
     let start = c .before in
     let n = codeCount (start .before .before .before .before .args .words .now) in
-    rw (← start .first-bad-start .ensures, lt-ltb (start .first-bad-start .result) n (omega arith))
+    rw (← start .first-bad .ensures, lt-ltb (start .first-bad .result) n (omega arith))
 
 returns-2 : tie.Need-returns-2
 unfolding fromStarts
@@ -31,32 +31,32 @@ returns-2 c =
     let start = multiplier .before .before in
     let n = codeCount (start .before .before .before .before .args .words .now) in
     rw (
-      ← start .first-bad-start .ensures,
-      le-ltb (start .first-bad-start .result) n (omega arith),
-      ← multiplier .first-bad-multiplier .ensures,
-      lt-ltb (multiplier .first-bad-multiplier .result) n (omega arith),
+      ← start .first-bad .ensures,
+      le-ltb (start .first-bad .result) n (omega arith),
+      ← multiplier .first-bad2 .ensures,
+      lt-ltb (multiplier .first-bad2 .result) n (omega arith),
     )
 
 returns-3 : tie.Need-returns-3
 unfolding fromStarts
 returns-3 c =
-    let cell = c .before .before .before in
-    let multiplier = cell .before .before in
+    let cell = c .before in
+    let multiplier = cell .before .before .before .before in
     let start = multiplier .before .before in
     let words = start .before .before .before .before .args .words .now in
     rw (
-      ← start .first-bad-start .ensures,
-      le-ltb (start .first-bad-start .result) (codeCount words) (omega arith),
-      ← multiplier .first-bad-multiplier .ensures,
-      le-ltb (multiplier .first-bad-multiplier .result) (codeCount words) (omega arith),
-      ← cell .first-bad-cell .ensures,
-      lt-ltb (cell .first-bad-cell .result) (cellCount words) (omega arith),
+      ← start .first-bad .ensures,
+      le-ltb (start .first-bad .result) (codeCount words) (omega arith),
+      ← multiplier .first-bad2 .ensures,
+      le-ltb (multiplier .first-bad2 .result) (codeCount words) (omega arith),
+      ← cell .first-bad3 .ensures,
+      lt-ltb (cell .first-bad3 .result) (cellCount words) (omega arith),
     )
 
 check-places-requires : tie.Need-check-places-requires
 check-places-requires c κs =
-    let cell = c .before .before .before in
-    let multiplier = cell .before .before in
+    let cell = c .before in
+    let multiplier = cell .before .before .before .before in
     let start = multiplier .before .before in
     let b = start .before .before .before .before in
     let words = b .args .words .now in
@@ -64,26 +64,26 @@ check-places-requires c κs =
     let p = b .args .p in
     record {
       sized = b .pre .1;
-      starts = starts-pass words (b .pre .1 .no-cells) (passed n (badStart words) (omega (arith, start .first-bad-start .ensures)));
+      starts = starts-pass words (b .pre .1 .no-cells) (passed n (badStart words) (omega (arith, start .first-bad .ensures)));
       multipliers = λ j l.
-          multiplier-passes p words j (b .pre .0) .0 (passed n (badBlockMultiplier p words) (omega (arith, multiplier .first-bad-multiplier .ensures)) j l) .1;
-      codes = λ i l. cell-passes p words i (b .pre .0) .0 (passed (cellCount words) (badCell p words) (omega (arith, cell .first-bad-cell .ensures)) i l) .0;
+          multiplier-passes p words j (b .pre .0) .0 (passed n (badBlockMultiplier p words) (omega (arith, multiplier .first-bad2 .ensures)) j l) .1;
+      codes = λ i l. cell-passes p words i (b .pre .0) .0 (passed (cellCount words) (badCell p words) (omega (arith, cell .first-bad3 .ensures)) i l) .0;
     }
 
 returns-4 : tie.Need-returns-4
 unfolding fromStarts
 returns-4 c =
-    let cell = c .before .before .before .before in
-    let multiplier = cell .before .before in
+    let cell = c .before .before in
+    let multiplier = cell .before .before .before .before in
     let start = multiplier .before .before in
     let words = start .before .before .before .before .args .words .now in
     rw (
-      ← start .first-bad-start .ensures,
-      le-ltb (start .first-bad-start .result) (codeCount words) (omega arith),
-      ← multiplier .first-bad-multiplier .ensures,
-      le-ltb (multiplier .first-bad-multiplier .result) (codeCount words) (omega arith),
-      ← cell .first-bad-cell .ensures,
-      le-ltb (cell .first-bad-cell .result) (cellCount words) (omega arith),
+      ← start .first-bad .ensures,
+      le-ltb (start .first-bad .result) (codeCount words) (omega arith),
+      ← multiplier .first-bad2 .ensures,
+      le-ltb (multiplier .first-bad2 .result) (codeCount words) (omega arith),
+      ← cell .first-bad3 .ensures,
+      le-ltb (cell .first-bad3 .result) (cellCount words) (omega arith),
     )
     (c .check-places .ensures)
 
@@ -99,8 +99,8 @@ check-blocks-spec =
     (λ c κs. search needs)
     (λ c. search needs)
     returns-2
-    (λ c κs. search needs)
     (λ c. search needs)
+    (λ c κs. search needs)
     (λ c κs. search needs)
     (λ c. search needs)
     returns-3
