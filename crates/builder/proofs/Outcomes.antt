@@ -9,8 +9,8 @@ use Rattle.table.specs.Answers.{Answer, given, refused, outside, firstOf, fille
 use Rattle.table.specs.TwoLevel.{tableOf, wordsNeeded}
 use Rattle.lists.specs.List.{repeated}
 use Rattle.lists.specs.List.{badCode, badSchedule, listOr}
+use Rattle.writer.specs.code.Valid.{ValidBuilt}
 use Rattle.builder.specs.Build.{buildOf, builtWords, Built}
-use Rattle.builder.specs.code.Valid.{ValidBuilt}
 
 -- no such index is found
 pub passes : {i m : ℕ} (n : ℕ) → i ≡ m → n ≤ i → n ≤ m

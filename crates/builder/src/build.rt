@@ -5,10 +5,10 @@ ghost use Rattle.table.specs.Limits.{room};
 ghost use Rattle.builder.specs.Build.{Built};
 ghost use Rattle.builder.specs.Built.{builtOf};
 ghost use Rattle.table.specs.Limits.{mostPairs};
-use crate::valid::build_valid;
 use lists::range::first_outside;
 use lists::repeats::first_repeated;
 use table::limits::MOST_PAIRS;
+use writer::valid::write_valid;
 
 pub enum BuildAnswer {
     // the total
@@ -60,7 +60,7 @@ pub fn build_for(
         return BuildAnswer::Repeated(again as u32);
     }
     let lent = words.len();
-    let total = build_valid(p, codes, schedules, words);
+    let total = write_valid(p, codes, schedules, words);
     if lent < (total as usize) {
         return BuildAnswer::TooShort(total);
     }

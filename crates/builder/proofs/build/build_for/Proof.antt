@@ -38,9 +38,9 @@ returns-5 c =
     (passes _ (good .before .first-outside .ensures) (good .if3 .left))
     (passes _ (scheduled .before .first-outside2 .ensures) (scheduled .if4 .left)) _ (c .before .first-repeated .ensures) (c .if5 .taken)
 
-build-valid-requires : tie.Need-build-valid-requires
+write-valid-requires : tie.Need-write-valid-requires
 unfolding badCode
-build-valid-requires c κs =
+write-valid-requires c κs =
     let new = c .before in
     let scheduled = new .before .before in
     let good = scheduled .before .before in
@@ -52,7 +52,7 @@ build-valid-requires c κs =
 
 -- none of 1 to 5 holds
 passed :
-    (c : tie.After-build-valid)
+    (c : tie.After-write-valid)
     → let start = c .before .before .before .before .before .before .before .before .before .before .before .before .before in
     Passed (start .args .p) (start .args .limit) (start .args .codes .now) (start .args .schedules .now)
 unfolding badCode badSchedule
@@ -70,10 +70,10 @@ passed c =
     }
 
 returns-6 : tie.Need-returns-6
-returns-6 c = let accepted = c .before .before .before in too-short (passed accepted) (accepted .build-valid .ensures) (c .if6 .taken)
+returns-6 c = let accepted = c .before .before .before in too-short (passed accepted) (accepted .write-valid .ensures) (c .if6 .taken)
 
 returns-7 : tie.Need-returns-7
-returns-7 c = let accepted = c .before .before .before in long-enough (passed accepted) (accepted .build-valid .ensures) (c .if6 .left)
+returns-7 c = let accepted = c .before .before .before in long-enough (passed accepted) (accepted .write-valid .ensures) (c .if6 .left)
 
 pub build-for-spec : {M : Type 1} → statement M
 build-for-spec =
@@ -91,7 +91,7 @@ build-for-spec =
     (λ c κs. search needs)
     (λ c. search needs)
     returns-5
-    build-valid-requires
+    write-valid-requires
     (λ c. search needs)
     (λ c. search needs)
     returns-6
