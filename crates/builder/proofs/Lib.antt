@@ -1,3 +1,2 @@
--- What the proofs of the functions cite, by topic: the build of a valid list, and the whole.
-mod Totals
+-- What the proofs of the functions cite.
 mod Outcomes

@@ -10,7 +10,7 @@ use Rattle.lists.specs.List.{listOr}
 use Rattle.lists.specs.Valid.{Valid}
 use Rattle.lists.proofs.Valid.{list-first, valid-passes}
 use Rattle.builder.specs.Build.{buildOf, builtWords, Built}
-use Rattle.builder.specs.code.Valid.{ValidBuilt}
+use Rattle.writer.specs.code.Valid.{ValidBuilt}
 
 -- what a build answers decides what it leaves
 built-by :

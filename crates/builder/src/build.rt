@@ -5,10 +5,11 @@ ghost use Rattle.table.specs.Limits.{room};
 ghost use Rattle.builder.specs.Build.{Built};
 ghost use Rattle.builder.specs.Built.{builtOf};
 ghost use Rattle.table.specs.Limits.{mostPairs};
-use crate::valid::build_valid;
+
 use lists::list::ListAnswer;
 use lists::list::validate;
 use table::limits::MOST_PAIRS;
+use writer::valid::write_valid;
 
 pub enum BuildAnswer {
     // the total
@@ -37,7 +38,7 @@ pub fn build_for(
         return BuildAnswer::Refused(listed);
     };
     let lent = words.len();
-    let total = build_valid(p, codes, schedules, words);
+    let total = write_valid(p, codes, schedules, words);
     if lent < (total as usize) {
         return BuildAnswer::TooShort(total);
     }

@@ -1,4 +1,3 @@
 // Building a table from a list.
 pub mod build;
 pub mod numbered;
-mod valid;

@@ -14,10 +14,23 @@ use lib.Seq.{drop-length, getD-set-same, getD-set-other}
 use Rattle.hash.specs.Hash.{hashOf, load, together, cells}
 use Rattle.hash.proofs.Counting.{load-le, cells-is}
 use Rattle.hash.proofs.Indicators.{indicator, indicator-eq, indicator-ne}
+use Rattle.table.specs.TwoLevel.{tabulate}
+use Rattle.table.proofs.Tabulate.{tabulate-is}
 use Rattle.search.specs.declared.blocks.Count.{Count}
 use Rattle.search.specs.declared.blocks.Count.the-variants.{Fits, TooMany}
 use Rattle.search.specs.code.Blocks.{countOf, Blocked, Counted}
 use Rattle.search.proofs.Ends.{drop-before, together-drop}
+
+-- blocks and loads that are known place by place
+pub blocked-each :
+    {p k : ℕ} {codes blocks counts : List ℕ} → (length blocks ≡ length codes) × (length counts ≡ length codes)
+    → ((i : ℕ) → i < length codes → getD blocks i 0 ≡ hashOf p k (length codes) (getD codes i 0))
+    → ((t : ℕ) → t < length codes → getD counts t 0 ≡ load p k (length codes) t codes) → Blocked p k codes blocks counts
+blocked-each {p} {k} {codes} {blocks} {counts} (same, sized) blocks-are loads-are =
+    record {
+      blocks-are = tabulate-is _ blocks (λ i l. blocks-are i (omega arith)) ∙ ap (tabulate _) same;
+      loads-are = tabulate-is _ counts (λ t l. loads-are t (omega arith)) ∙ ap (tabulate _) sized;
+    }
 
 -- one count more
 pub raised : (counts : List ℕ) (t u : ℕ) → t < length counts → getD (set counts t (getD counts t 0 + 1)) u 0 ≡ indicator (eqb t u) + getD counts u 0
@@ -105,11 +118,7 @@ module _
         ∙ ap Fits e
 
     pub counting-blocked : Blocked p k codes blocks counts
-    counting-blocked =
-        record {
-          blocks-are = λ t l. h .blocks-are t (omega arith) l;
-          loads-are = rw none-left at (h .loads);
-        }
+    counting-blocked = blocked-each (h .blocked, h .sized) (λ t l. h .blocks-are t (omega arith) l) (rw none-left at (h .loads))
 
 -- where the cells are too many nothing is left
 fitting : Count → Bool

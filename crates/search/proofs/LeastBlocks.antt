@@ -14,6 +14,7 @@ use Rattle.search.specs.declared.blocks.Count.{Count}
 use Rattle.search.specs.declared.blocks.Count.the-variants.{Fits, TooMany}
 use Rattle.search.specs.code.Searchable.{Searchable}
 use Rattle.search.specs.code.Blocks.{keeps, countOf, Blocked, LeastBlocks}
+use Rattle.search.proofs.Counts.{blocked-each}
 use Rattle.search.proofs.Tries.{Trying, trying-start, trying-more, trying-found}
 
 -- the empty list
@@ -22,8 +23,10 @@ unfolding blocksMultiplier cells sum
 blocks-none p [] none = record { multiplier = refl; cells = refl }
 blocks-none p (a ∷ s) none = absurd (omega arith)
 
-pub none-blocked : {p k : ℕ} {codes blocks counts : List ℕ} → length codes ≡ 0 → Blocked p k codes blocks counts
-none-blocked none = record { blocks-are = λ i l. absurd (omega arith); loads-are = λ t l. absurd (omega arith) }
+pub none-blocked :
+    {p k : ℕ} {codes blocks counts : List ℕ} → length codes ≡ 0 → (length blocks ≡ length codes) × (length counts ≡ length codes)
+    → Blocked p k codes blocks counts
+none-blocked none sized = blocked-each sized (λ i l. absurd (omega arith)) (λ t l. absurd (omega arith))
 
 -- k is to be tried
 abbrev pub TryingBlocks : ℕ → List ℕ → ℕ → Type 0

@@ -8,7 +8,6 @@ use mathlib.Core.Path.{_≡_, refl, sym, ap, _∙_}
 use borrow.Author.Tests.{eq-eqb, ne-eqb, eqb-true}
 use lib.ListN.{length, replicate, length-replicate}
 use Rattle.hash.specs.Hash.{hashOf, load, together}
-use Rattle.hash.specs.Theorems.{Least}
 use Rattle.table.specs.Pairs.{paired, valueWhere}
 use Rattle.table.specs.TwoLevel.{tabulate, cellsMultiplier, heldAt}
 use Rattle.table.proofs.Tabulate.{tabulate-length}
@@ -81,12 +80,6 @@ cells-separated {p} {q} {block} h passes =
       below = omega (arith, h .upto, h .least .below);
       apart = eqb-true (together p q (square block) block) 0 passes;
     }
-
--- the least multiplier separates the block
-pub least-separated : {p q : ℕ} {block : List ℕ} → Searchable p block → q ≡ cellsMultiplier p block → Separated p block q
-least-separated {p} {q} {block} codes is =
-    let least : Least (separates p block) p (cellsMultiplier p block) = cells-least (codes .prime) block (codes .valid) in
-    rw is (record { multiplier = refl; below = least .below; apart = eqb-true _ 0 (least .passes) })
 
 -- what a trial of q answers: the least q, with the codes in the cells, or that the next one is to be tried in the same cells
 module _ {p q : ℕ} {block old new : List ℕ} {r : Bool} (tried : Tried p q block old new r) where

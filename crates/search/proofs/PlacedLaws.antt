@@ -1,10 +1,8 @@
 -- The cells of one block, and the values listed with the codes of one place, a code at a time.
-use Prim.Native.Nat.{ℕ, suc}
+use Prim.Native.Nat.{ℕ}
 use native.Mathlib.Decide.{ℕ-discrete}
-use native.Mathlib.Omega.{arith}
 use mathlib.Core.List.{List, [], _∷_}
 use mathlib.Core.Path.{_≡_, refl, ap}
-use lib.ListN.{length}
 use borrow.Author.Tests.{eq-eqb, ne-eqb}
 use Rattle.hash.specs.Hash.{hashOf, load, members}
 use Rattle.hash.proofs.Counting.{load-zero}
@@ -42,17 +40,4 @@ module _ (p k w t : ℕ) where
       elim (ℕ-discrete (hashOf p k w a) t) [
         | yes e ↦ rw (valuesOf-in a a codes codes e, members-in p k w t a codes e) (ap (λ (s : List ℕ). a ∷ s) (valuesOf-codes codes))
         | no ne ↦ rw (valuesOf-out a a codes codes ne, members-out p k w t a codes ne) (valuesOf-codes codes)
-      ]
-
-  -- as many as the place has codes
-  pub valuesOf-length :
-      (codes values : List ℕ) → length values ≡ length codes → length (valuesOf p k w t codes values) ≡ length (members p k w t codes)
-  unfolding valuesOf paired pairsWhere members
-  valuesOf-length [] values same = refl
-  valuesOf-length (a ∷ codes) [] same = absurd (omega arith)
-  valuesOf-length (a ∷ codes) (v ∷ values) same =
-      elim (ℕ-discrete (hashOf p k w a) t) [
-        | yes e ↦
-            rw (valuesOf-in a v codes values e, members-in p k w t a codes e) (ap suc (valuesOf-length codes values (omega arith)))
-        | no ne ↦ rw (valuesOf-out a v codes values ne, members-out p k w t a codes ne) (valuesOf-length codes values (omega arith))
       ]

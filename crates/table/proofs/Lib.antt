@@ -5,8 +5,6 @@ pub mod First
 pub mod Some
 pub mod Refusals
 pub mod Steps
--- Lists side by side.
-pub mod Paired
 -- The table of a list: lists by their function, the words before the cells, what each cell holds, the multipliers that are taken,
 -- the codes' own cells, and what is read from the words.
 pub mod Tabulate

@@ -11,7 +11,7 @@ use Rattle.hash.specs.Theorems.{Prime}
 use Rattle.hash.proofs.Counting.{hash-lt, load-members, load-zero, together-apart}
 use Rattle.hash.proofs.Members.{mem-at, at-mem, mem-members, members-codes}
 use Rattle.table.specs.Words.{ownCell}
-use Rattle.table.specs.TwoLevel.{blocksMultiplier, startOf, frontOf, cellsOf}
+use Rattle.table.specs.TwoLevel.{blocksMultiplier, startOf, frontOf}
 use Rattle.table.proofs.Front.{sizeOf, blockQ, ownOf, start-rises, start-last, Fronted, frontOf-fronted, own-is, own-from, own-below}
 use Rattle.table.proofs.Held.{Apart, same-index}
 use Rattle.table.proofs.Chosen.{cells-apart}
@@ -114,7 +114,3 @@ module _ {p : ℕ} (prime : Prime p) (k : ℕ) (codes : List ℕ) (valid : Codes
 module _ {p : ℕ} (prime : Prime p) (codes : List ℕ) (valid : Codes p codes) where
   pub front-apart : Apart (ownCell p (frontOf p codes)) codes
   front-apart = listed-apart prime (blocksMultiplier p codes) codes valid (frontOf p codes) (frontOf-fronted p codes)
-
-  pub front-own-lt : (x : ℕ) → x < length codes → ownCell p (frontOf p codes) (getD codes x 0) < cellsOf p codes
-  unfolding cellsOf
-  front-own-lt x h = listed-own-lt prime (blocksMultiplier p codes) codes valid (frontOf p codes) (frontOf-fronted p codes) x h

@@ -2,7 +2,7 @@
 -- words are the table's.
 use Prim.Native.Nat.{ℕ, zero, suc, _+_, _*_, _-_, _<_, _≤_}
 use mathlib.Core.Bool.{Bool, false}
-use mathlib.Core.List.{List, [], _∷_, _++_}
+use mathlib.Core.List.{List, _++_}
 use mathlib.Core.Path.{_≡_, refl, sym, ap, ap₂, _∙_}
 use native.Mathlib.Numerals.{add-one}
 use native.Mathlib.Omega.{arith}
@@ -16,13 +16,12 @@ use Rattle.table.specs.Words.{ownCell}
 use Rattle.table.specs.TwoLevel.{tabulate, cellsMultiplier, startOf, frontWith, heldAt, tableWith}
 use Rattle.table.proofs.Tabulate.{tabulate-ext}
 use Rattle.table.proofs.Front.{blockQ, start-last, front-parts, front-fronted}
-use Rattle.search.specs.code.Searchable.{Searchable}
 use Rattle.search.specs.code.Placed.{valuesOf}
 use Rattle.search.specs.code.Cells.{filledBy}
 use Rattle.search.proofs.PlacedLaws.{valuesOf-codes}
 use Rattle.search.proofs.BlockCells.{block-cells}
 use Rattle.writer.specs.code.Grouping.{before, Loads, chosen, ListedBySize, Grouped}
-use Rattle.writer.specs.code.Writing.{sizeAt, groupAt, startAt, multiplierAt, joined, cellsBut, tableBut, Offsets, Groups, Writable}
+use Rattle.writer.specs.code.Writing.{sizeAt, groupAt, startAt, multiplierAt, joined, cellsBut, tableBut, Groups, Writable}
 use Rattle.writer.proofs.Groups.{before-next, before-le}
 use Rattle.writer.proofs.Choosing.{chosen-ext}
 

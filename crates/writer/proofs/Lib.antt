@@ -6,6 +6,7 @@ mod Vacancies
 mod Pending
 mod Fronts
 mod Assembly
+mod Totals
 pub mod Choosing
 pub mod Groups
 pub mod Parts

@@ -315,7 +315,7 @@ fn write_blocks(
 }
 
 // Writes the table of a list, which the words have room for exactly, from the blocks of its codes and the loads of the blocks, in `at`.
-pub fn write_table(
+pub(crate) fn write_table(
     p: u32,
     k: u32,
     c: u32,

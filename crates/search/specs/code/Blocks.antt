@@ -6,7 +6,7 @@ use mathlib.Core.Path.{_≡_}
 use lib.Dec.{leb}
 use lib.ListN.{length, getD}
 use Rattle.hash.specs.Hash.{hashOf, load, cells}
-use Rattle.table.specs.TwoLevel.{blocksMultiplier}
+use Rattle.table.specs.TwoLevel.{tabulate, blocksMultiplier}
 use Rattle.search.specs.declared.blocks.Count.{Count}
 use Rattle.search.specs.declared.blocks.Count.the-variants.{Fits, TooMany}
 use Rattle.table.specs.Limits.{room}
@@ -28,9 +28,15 @@ pub record Countable (p k : ℕ) (codes blocks counts : List ℕ) : Type 0 where
   pub sized : (length blocks ≡ length codes) × (length counts ≡ length codes)
 
 -- the block of each code under k, and the load of each block
+abbrev pub blocksOf : ℕ → ℕ → List ℕ → List ℕ
+blocksOf p k codes = tabulate (λ i. hashOf p k (length codes) (getD codes i 0)) (length codes)
+
+abbrev pub loadsOf : ℕ → ℕ → List ℕ → List ℕ
+loadsOf p k codes = tabulate (λ t. load p k (length codes) t codes) (length codes)
+
 pub record Blocked (p k : ℕ) (codes blocks counts : List ℕ) : Type 0 where
-  pub blocks-are : (i : ℕ) → i < length codes → getD blocks i 0 ≡ hashOf p k (length codes) (getD codes i 0)
-  pub loads-are : (t : ℕ) → t < length codes → getD counts t 0 ≡ load p k (length codes) t codes
+  pub blocks-are : blocks ≡ blocksOf p k codes
+  pub loads-are : counts ≡ loadsOf p k codes
 
 -- what a counting under k answers, and leaves where k keeps the bound
 pub record Counted (p k : ℕ) (codes : List ℕ) (answer : Count) (blocks counts : List ℕ) : Type 0 where

@@ -24,17 +24,17 @@ module _ (c : tie.After-enum-told) where
   valid : Valid (start .args .p) (start .args .limit) (start .args .codes .now) (start .args .schedules .now)
   valid = passes-valid _ _ _ _ (sym (c .before .before .validate .ensures) ∙ ap listedOf (c .enum-told .given .1))
 
-build-valid-requires : tie.Need-build-valid-requires
-build-valid-requires c κs =
+write-valid-requires : tie.Need-write-valid-requires
+write-valid-requires c κs =
     let v = valid (c .before) in
     let s = start (c .before) in
     (record { prime = s .pre .0; valid = v .codes-valid; few = omega (arith, v .few, s .pre .1) }, v .parallel)
 
 returns-2 : tie.Need-returns-2
-returns-2 c = let b = c .before .before .before in too-short (valid (b .before .before)) (b .build-valid .ensures) (c .if1 .taken)
+returns-2 c = let b = c .before .before .before in too-short (valid (b .before .before)) (b .write-valid .ensures) (c .if1 .taken)
 
 returns-3 : tie.Need-returns-3
-returns-3 c = let b = c .before .before .before in long-enough (valid (b .before .before)) (b .build-valid .ensures) (c .if1 .left)
+returns-3 c = let b = c .before .before .before in long-enough (valid (b .before .before)) (b .write-valid .ensures) (c .if1 .left)
 
 pub build-for-spec : {M : Type 1} → statement M
 build-for-spec =
@@ -43,7 +43,7 @@ build-for-spec =
     (λ c κs. search needs)
     (λ c. search needs)
     returns
-    build-valid-requires
+    write-valid-requires
     (λ c. search needs)
     (λ c. search needs)
     returns-2

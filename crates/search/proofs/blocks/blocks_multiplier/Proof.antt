@@ -20,7 +20,7 @@ abbrev μ-loop : tie.MeasureT-loop
 returns : tie.Need-returns Inv-loop μ-loop
 returns c =
     let start = c .before .before .before .before in
-    (blocks-none (start .args .p) (start .args .codes .now) (c .if1 .taken), none-blocked (c .if1 .taken))
+    (blocks-none (start .args .p) (start .args .codes .now) (c .if1 .taken), none-blocked (c .if1 .taken) (start .pre .1))
 
 loop-holds : tie.Need-loop-holds Inv-loop μ-loop
 loop-holds c = let start = c .before .before .before .before .before in (blocks-start (start .pre .0) (omega arith), start .pre .1)

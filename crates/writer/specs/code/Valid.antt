@@ -1,4 +1,4 @@
--- What is left of a build once its list is valid (document 01, "Build", 6).
+-- The table of a valid list, into the words that are lent (document 01, "Build", 6).
 use Prim.Native.Nat.{ℕ}
 use mathlib.Core.List.{List}
 use mathlib.Core.Path.{_≡_}

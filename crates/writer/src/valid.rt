@@ -1,15 +1,15 @@
-// Building the table of a list that is not refused: 6, or the words.
+// The table of a valid list: its total, and its words where they fit the room that is lent.
 ghost use mathlib.Core.Path.{_≡_};
 ghost use lib.ListN.{length};
 ghost use Rattle.search.specs.code.Searchable.{Searchable};
+ghost use Rattle.writer.specs.code.Valid.{ValidBuilt};
 ghost use Rattle.writer.specs.code.Writing.{Scratch};
-ghost use Rattle.builder.specs.code.Valid.{ValidBuilt};
+use crate::write::write_table;
 use table::limits::ROOM;
-use writer::write::write_table;
 
-// Builds the table of a list that 1 to 5 do not refuse, with this room to work in. Gives the total, which is worked out before a word is written; none is
-// where fewer are lent.
-fn build_with(
+// Writes the table of a list that 1 to 5 do not refuse, with these scratch buffers. Gives the total, which is worked out before a word is written; none
+// is where fewer are lent.
+fn write_with(
     p: u32,
     codes: &[u32],
     schedules: &[u32],
@@ -51,8 +51,8 @@ fn build_with(
     given
 }
 
-// The same with room of its own: as much as the list needs, since all of it is set to 0 at each call.
-pub(crate) fn build_valid(p: u32, codes: &[u32], schedules: &[u32], words: &mut [u32]) -> u32
+// The same with scratch buffers of its own, of the least size that serves the list, since all of them are set to 0 at each call.
+pub fn write_valid(p: u32, codes: &[u32], schedules: &[u32], words: &mut [u32]) -> u32
     requires { ⌜ Searchable p (now codes) ⌝ }
     requires { ⌜ length (now schedules) ≡ length (now codes) ⌝ }
     ensures { λ r. ⌜ ValidBuilt p (now (codes .entry)) (now (schedules .entry)) (now (words .entry)) r (now (words .exit)) ⌝ }
@@ -64,7 +64,7 @@ pub(crate) fn build_valid(p: u32, codes: &[u32], schedules: &[u32], words: &mut 
         let mut grouped = [0u32; 32];
         let mut scheduled = [0u32; 32];
         let mut lists = [0u16; 96];
-        return build_with(
+        return write_with(
             p,
             codes,
             schedules,
@@ -82,7 +82,7 @@ pub(crate) fn build_valid(p: u32, codes: &[u32], schedules: &[u32], words: &mut 
         let mut grouped = [0u32; 256];
         let mut scheduled = [0u32; 256];
         let mut lists = [0u16; 768];
-        return build_with(
+        return write_with(
             p,
             codes,
             schedules,
@@ -99,7 +99,7 @@ pub(crate) fn build_valid(p: u32, codes: &[u32], schedules: &[u32], words: &mut 
     let mut grouped = [0u32; ROOM];
     let mut scheduled = [0u32; ROOM];
     let mut lists = [0u16; 3 * ROOM];
-    build_with(
+    write_with(
         p,
         codes,
         schedules,

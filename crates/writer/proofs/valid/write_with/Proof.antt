@@ -1,13 +1,13 @@
--- `builder::valid::build_with` meets its contract: c is that of the least k, and at most 3n, so that the total is a word.
+-- `writer::valid::write_with` meets its contract: c is that of the least k, and at most 3n, so that the total is a word.
 use Prim.Native.Nat.{ℕ}
 use mathlib.Core.Path.{_≡_, sym, _∙_}
 use native.Mathlib.Omega.{arith}
 use lib.ListN.{length, take, drop}
 use lib.Seq.{length-take-le, length-front}
 use borrow.Author.Needs.{needs}
-use Rattle.builder.proofs.Totals.{total-fits, too-short, accepted-writable, accepted-done, blocked-blocks, blocked-loads}
-use Rattle.builder.proofs.valid.build_with.Statement.{statement}
-use Rattle.builder.proofs.valid.build_with.Tie as tie
+use Rattle.writer.proofs.Totals.{total-fits, too-short, valid-writable, valid-written, blocked-blocks, blocked-loads}
+use Rattle.writer.proofs.valid.write_with.Statement.{statement}
+use Rattle.writer.proofs.valid.write_with.Tie as tie
 
 -- a count for each block is lent
 lent :
@@ -43,11 +43,11 @@ write-table-requires c κs =
     let b = found .blocks-multiplier .ensures .1 in
     let kept = found .blocks-multiplier .kept .1 .1 in
     let at-kept = length-front (start .args .at .now) (found .blocks-multiplier .last .1 .1 .1 .0) n (kept .1 .0) in (
-      accepted-writable (start .pre .0) (found .blocks-multiplier .ensures .0) _ (start .pre .1 .0 .0),
+      valid-writable (start .pre .0) (found .blocks-multiplier .ensures .0) _ (start .pre .1 .0 .0),
       (
         (
           blocked-blocks b (start .pre .0 .few) (kept .0 ∙ start .pre .1 .0 .1),
-          blocked-loads b (drop n (start .args .at .now)) (kept .1 .0 ∙ lent start),
+          blocked-loads b (drop n (start .args .at .now)),
         ),
         (
           record {
@@ -66,10 +66,10 @@ returns-2 c =
     let test = wrote .before .before .before .before .before .before .before in
     let found = test .before .before .before .before .before in
     let start = found .before .before .before .before .before .before .before .before .before .before .before in
-    accepted-done (start .pre .0) (found .blocks-multiplier .ensures .0) _ _ _ (test .if1 .left) (wrote .write-table .ensures)
+    valid-written (start .pre .0) (found .blocks-multiplier .ensures .0) _ _ _ (test .if1 .left) (wrote .write-table .ensures)
 
-pub build-with-spec : {M : Type 1} → statement M
-build-with-spec =
+pub write-with-spec : {M : Type 1} → statement M
+write-with-spec =
     tie.close
     (tie.spec
     (λ c. omega (arith, c .before .before .before .before .before .before .before .before .before .pre .1 .1 .at-room))

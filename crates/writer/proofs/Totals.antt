@@ -1,22 +1,23 @@
--- A build of an accepted list: its total, the words that are kept or written, and the room to work in.
+-- The table of a valid list: its total, the words that are kept or written, and the scratch buffers.
 use Prim.Native.Nat.{ℕ, _+_, _*_, _<_, _≤_}
 use mathlib.Core.List.{List, [], _∷_, _++_}
 use mathlib.Core.Path.{_≡_, sym, ap, _∙_}
 use native.Mathlib.Decide.{ℕ-discrete}
 use native.Mathlib.Omega.{arith}
 use borrow.Author.Tests.{lt-ltb, le-ltb}
-use lib.ListN.{length, getD, drop, List·getD-append}
+use lib.ListN.{length, getD, drop}
 use Rattle.hash.specs.Hash.{cells}
 use Rattle.table.specs.Answers.{Answer, given, refused, filled, intoRoom}
 use Rattle.table.specs.TwoLevel.{frontWith, frontOf, tableWith, tableOf, cellsOf, wordsNeeded}
+use Rattle.table.proofs.Tabulate.{tabulate-at, tabulate-head}
 use Rattle.table.proofs.Chosen.{few-cells, no-cells}
 use Rattle.table.proofs.Contents.{needed-is, table-length}
 use Rattle.search.specs.code.Searchable.{Searchable}
 use Rattle.table.specs.Limits.{room}
 use Rattle.search.specs.code.Blocks.{LeastBlocks, Blocked}
 use Rattle.writer.specs.code.Grouping.{BlockOfEach, Loads}
 use Rattle.writer.specs.code.Writing.{Writable, Scratch}
-use Rattle.builder.specs.code.Valid.{ValidBuilt}
+use Rattle.writer.specs.code.Valid.{ValidBuilt}
 
 module _ {p k c : ℕ} {codes : List ℕ} (s : Searchable p codes) (f : LeastBlocks p codes k c) where
   cells-is : c ≡ cellsOf p codes
@@ -40,8 +41,8 @@ module _ {p k c : ℕ} {codes : List ℕ} (s : Searchable p codes) (f : LeastBlo
   pub total-fits : total < 4294967296
   total-fits = omega (arith, few, s .few)
 
-  pub accepted-writable : (schedules : List ℕ) → length schedules ≡ length codes → Writable p k c codes schedules
-  accepted-writable schedules parallel = record { searchable = s; cells-are = f .cells; parallel = parallel }
+  pub valid-writable : (schedules : List ℕ) → length schedules ≡ length codes → Writable p k c codes schedules
+  valid-writable schedules parallel = record { searchable = s; cells-are = f .cells; parallel = parallel }
 
   module _ (schedules words : List ℕ) where
     pub too-short : length words < total → ValidBuilt p codes schedules words total words
@@ -54,10 +55,10 @@ module _ {p k c : ℕ} {codes : List ℕ} (s : Searchable p codes) (f : LeastBlo
     unfolding tableOf frontOf
     table-is = rw (f .multiplier, cells-is)
 
-    pub accepted-done :
+    pub valid-written :
         (new : List ℕ) → total ≤ length words → new ≡ tableWith p (frontWith p k codes) c codes schedules
         → ValidBuilt p codes schedules words total (new ++ drop total words)
-    accepted-done new l is =
+    valid-written new l is =
         let e : intoRoom 6 (wordsNeeded p codes) (length words) ≡ given (total ∷ []) =
         rw (← total-is, le-ltb (length words) total l) in
         let size : length (tableOf p codes schedules) ≡ total = table-length p codes schedules ∙ sym total-is in
@@ -73,15 +74,15 @@ module _ {p k c : ℕ} {codes : List ℕ} (s : Searchable p codes) (f : LeastBlo
 
 module _ {p k : ℕ} {codes blocks counts : List ℕ} (b : Blocked p k codes blocks counts) where
   pub blocked-blocks : length codes ≤ room → length blocks ≡ length codes → BlockOfEach p k codes blocks
-  blocked-blocks few same = record { few = few; each = omega arith; blocks-are = b .blocks-are }
+  blocked-blocks few same = record { few = few; each = omega arith; blocks-are = λ i l. ap (λ (s : List ℕ). getD s i 0) (b .blocks-are) ∙ tabulate-at _ (length codes) i l }
 
-  pub blocked-loads : (rest : List ℕ) → length counts ≡ length codes → Loads p k codes (counts ++ rest)
-  blocked-loads rest same =
-      record { counts-are = λ j l. List·getD-append counts rest 0 j (omega arith) ∙ b .loads-are j l }
+  pub blocked-loads : (rest : List ℕ) → Loads p k codes (counts ++ rest)
+  blocked-loads rest =
+      record { counts-are = λ j l. ap (λ (s : List ℕ). getD (s ++ rest) j 0) (b .loads-are) ∙ tabulate-head _ (length codes) j rest l }
 
--- ---- room to work in
+-- ---- scratch buffers
 
--- room for m codes is room for fewer
+-- those for m codes serve fewer
 pub scratch-for :
     {n m : ℕ} (at grouped scheduled lists : List ℕ) → n ≤ m → length at ≡ m + 1 → (length grouped ≡ m) × (length scheduled ≡ m) → length lists ≡ 3 * m
     → Scratch n at grouped scheduled lists

@@ -1,30 +1,30 @@
--- `builder::valid::build_valid` meets its contract: each room has a place for each code, and one more where that is needed.
+-- `writer::valid::write_valid` meets its contract: each room has a place for each code, and one more where that is needed.
 use mathlib.Core.Path.{refl, sym}
 use native.Mathlib.Omega.{arith}
 use lib.Seq.{length-take-le}
 use borrow.Author.Needs.{needs}
-use Rattle.builder.proofs.Totals.{scratch-for}
-use Rattle.builder.proofs.valid.build_valid.Statement.{statement}
-use Rattle.builder.proofs.valid.build_valid.Tie as tie
+use Rattle.writer.proofs.Totals.{scratch-for}
+use Rattle.writer.proofs.valid.write_valid.Statement.{statement}
+use Rattle.writer.proofs.valid.write_valid.Tie as tie
 
-build-with-requires : tie.Need-build-with-requires
-build-with-requires c κs =
+write-with-requires : tie.Need-write-with-requires
+write-with-requires c κs =
     let start = c .before .before .before .before .before .before .before .before .before .before in
     (start .pre .0, ((start .pre .1, length-take-le _ _ (omega arith)), scratch-for {m = 32} _ _ _ _ (omega arith) refl (refl, refl) refl))
 
-build-with-requires-2 : tie.Need-build-with-requires-2
-build-with-requires-2 c κs =
+write-with-requires-2 : tie.Need-write-with-requires-2
+write-with-requires-2 c κs =
     let start = c .before .before .before .before .before .before .before .before .before .before .before in
     (start .pre .0, ((start .pre .1, length-take-le _ _ (omega arith)), scratch-for {m = 256} _ _ _ _ (omega arith) refl (refl, refl) refl))
 
-build-with-requires-3 : tie.Need-build-with-requires-3
-build-with-requires-3 c κs =
+write-with-requires-3 : tie.Need-write-with-requires-3
+write-with-requires-3 c κs =
     let start = c .before .before .before .before .before .before .before .before .before .before .before in
     let few = start .pre .0 .few in
     (start .pre .0, ((start .pre .1, length-take-le _ _ few), scratch-for {m = 2048} _ _ _ _ few refl (refl, refl) refl))
 
-pub build-valid-spec : {M : Type 1} → statement M
-build-valid-spec =
+pub write-valid-spec : {M : Type 1} → statement M
+write-valid-spec =
     tie.close
     (tie.spec
     (λ c. omega arith)
@@ -33,24 +33,24 @@ build-valid-spec =
     (λ c. search needs)
     (λ c. search needs)
     (λ c. search needs)
-    build-with-requires
+    write-with-requires
     (λ c. search needs)
-    (λ c. c .before .before .before .before .before .before .before .build-with .ensures)
+    (λ c. c .before .before .before .before .before .before .before .write-with .ensures)
     (λ c. omega arith)
     (λ c. sym (length-take-le _ _ (omega arith)))
     (λ c. search needs)
     (λ c. search needs)
     (λ c. search needs)
     (λ c. search needs)
-    build-with-requires-2
+    write-with-requires-2
     (λ c. search needs)
-    (λ c. c .before .before .before .before .before .before .before .build-with2 .ensures)
+    (λ c. c .before .before .before .before .before .before .before .write-with2 .ensures)
     (λ c. omega (arith, c .before .before .before .before .before .pre .0 .few))
     (λ c. sym (length-take-le _ _ (omega (arith, c .before .before .before .before .before .before .pre .0 .few))))
     (λ c. search needs)
     (λ c. search needs)
     (λ c. search needs)
     (λ c. search needs)
-    build-with-requires-3
+    write-with-requires-3
     (λ c. search needs)
-    (λ c. c .before .before .before .before .before .before .before .build-with3 .ensures))
+    (λ c. c .before .before .before .before .before .before .before .write-with3 .ensures))
