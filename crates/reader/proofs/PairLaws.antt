@@ -21,24 +21,8 @@ use Rattle.audit.specs.WellFormed.{WellFormed}
 use Rattle.table.specs.Pairs.{Pair, codesOf}
 use Rattle.reader.specs.Pairs.{allSchedules, stored, pairsIn}
 use Rattle.audit.proofs.Lookups.{lookup-range, lookup-found, lookup-absent}
+use Rattle.reader.proofs.Keys.{codes-length, schedules-length, code-at, schedule-at}
 use Rattle.reader.proofs.Rising.{InCell, stored-length, stored-in, in-stored, stored-codes, rising-length, rising-mem, rising-codes, rising-strict}
-
--- ---- the cells of a table that is whole
-
-module _ (words : List ℕ) (whole : total words ≤ length words) where
-  pub codes-length : length (allCodes words) ≡ cellCount words
-  codes-length = length-take-le (cellCount words) (drop (3 + 2 * codeCount words) words) (rw length-drop (omega arith))
-
-  pub schedules-length : length (allSchedules words) ≡ cellCount words
-  schedules-length =
-      length-take-le (cellCount words) (drop (3 + 2 * codeCount words + cellCount words) words) (rw length-drop (omega arith))
-
-  module _ (i : ℕ) (l : i < cellCount words) where
-    pub code-at : getD (allCodes words) i 0 ≡ cellCode words i
-    code-at = rw (getD-take, getD-drop)
-
-    pub schedule-at : getD (allSchedules words) i 0 ≡ cellSchedule words i
-    schedule-at = rw (getD-take, getD-drop)
 
 -- the pairs of the cells that hold a code
 abbrev inCells : List ℕ → List Pair
@@ -70,15 +54,15 @@ module _ {p limit : ℕ} {words : List ℕ} (f : WellFormed p limit words) where
       below : (i : ℕ) → i < length (allCodes words) → getD (allCodes words) i 0 < p
       below i l =
           let l : i < cellCount words = rw (codes-length words (f .whole)) at l in
-          rw (code-at words (f .whole) i l) (f .code-in-range i l)
+          rw (code-at words i l) (f .code-in-range i l)
 
       apart :
           (i j : ℕ) → i < j → j < length (allCodes words) → 0 < getD (allCodes words) i 0
           → getD (allCodes words) i 0 ≡ getD (allCodes words) j 0 → ⊥
       apart i j lt l pos e =
           let l : j < cellCount words = rw (codes-length words (f .whole)) at l in
-          let at-i = code-at words (f .whole) i (omega arith) in
-          let at-j = code-at words (f .whole) j l in
+          let at-i = code-at words i (omega arith) in
+          let at-j = code-at words j l in
           omega (
             arith,
             f .own i (omega arith) (omega (arith, at-i)),
@@ -114,8 +98,8 @@ module _ {p limit : ℕ} {words : List ℕ} (f : WellFormed p limit words) where
       let l : h .cell < cellCount words = rw (codes-length words (f .whole)) at (h .in-range) in (
         h .cell,
         l,
-        sym (code-at words (f .whole) (h .cell) l) ∙ h .code-there,
-        sym (schedule-at words (f .whole) (h .cell) l) ∙ h .schedule-there,
+        sym (code-at words (h .cell) l) ∙ h .code-there,
+        sym (schedule-at words (h .cell) l) ∙ h .schedule-there,
         h .held,
       )
 
@@ -129,8 +113,8 @@ module _ {p limit : ℕ} {words : List ℕ} (f : WellFormed p limit words) where
       (record {
         cell = i;
         in-range = rw (codes-length words (f .whole)) l;
-        code-there = code-at words (f .whole) i l ∙ code;
-        schedule-there = schedule-at words (f .whole) i l ∙ schedule;
+        code-there = code-at words i l ∙ code;
+        schedule-there = schedule-at words i l ∙ schedule;
         held = held;
       }))
 

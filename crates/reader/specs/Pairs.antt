@@ -1,12 +1,12 @@
 -- Reading a table back (document 01, "Read back").
 use Prim.Native.Nat.{ℕ, _+_, _*_}
-use mathlib.Core.Bool.{cond, _||_}
+use mathlib.Core.Bool.{not, cond, _||_}
 use mathlib.Core.List.{List, [], _∷_}
 use mathlib.Core.Path.{_≡_}
 use lib.Dec.{eqb, ltb, leb}
 use lib.ListN.{length, take, drop}
 use Rattle.table.specs.Answers.{Answer, given, refuse, orRefused, filled}
-use Rattle.table.specs.Pairs.{Pair, codesOf, schedulesOf}
+use Rattle.table.specs.Pairs.{Pair, codesOf, schedulesOf, paired, pairsWhere}
 use Rattle.table.specs.Words.{codeCount, cellCount}
 use Rattle.audit.specs.Check.{checkOf, allCodes}
 
@@ -16,10 +16,8 @@ allSchedules words = take (cellCount words) (drop (3 + 2 * codeCount words + cel
 
 -- the pairs of the cells that hold a code, by rising cell
 unfoldable pub stored : List ℕ → List ℕ → List Pair
-stored [] schedules = []
-stored (a ∷ codes) [] = []
-stored (a ∷ codes) (s ∷ schedules) =
-    cond (eqb a 0) (stored codes schedules) (record { code = a; schedule = s } ∷ stored codes schedules)
+unfolding paired pairsWhere
+stored codes schedules = pairsWhere (λ a. not (eqb a 0)) (paired codes schedules)
 
 -- a pair put before the first of a higher or equal code
 unfoldable pub place : Pair → List Pair → List Pair
