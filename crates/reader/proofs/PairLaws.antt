@@ -1,6 +1,6 @@
 -- The pairs read from a well-formed table: each cell that holds a code has one, and a code stands in its own cell only, so the codes are
 -- different. They are exactly the codes that a lookup finds, with their schedules.
-use Prim.Native.Nat.{ℕ, _+_, _*_, _<_, _≤_}
+use Prim.Native.Nat.{ℕ, _+_, _<_, _≤_}
 use native.Mathlib.Decide.{decLt}
 use native.Mathlib.Nat.{pos-of-ne-zero}
 use native.Mathlib.Omega.{arith}
@@ -9,11 +9,10 @@ use mathlib.Core.Logic.{_⊎_, inl, inr, ⊎-elim}
 use mathlib.Core.Path.{_≡_, sym, ap, _∙_}
 use borrow.Author.Tests.{eqb-true, eqb-false}
 use lib.Dec.{eqb}
-use lib.ListN.{length, getD, drop, length-drop}
-use lib.Seq.{getD-take, getD-drop, length-take-le}
+use lib.ListN.{length, getD}
 use Rattle.hash.specs.Hash.{Codes}
 use Rattle.table.specs.Answers.{given, firstOf}
-use Rattle.table.specs.Words.{codeCount, cellCount, total, cellCode, cellSchedule, ownCell}
+use Rattle.table.specs.Words.{codeCount, cellCount, cellCode, cellSchedule, ownCell}
 use Rattle.table.specs.Lookup.{lookupOf}
 use Rattle.table.proofs.First.{First, first-is}
 use Rattle.audit.specs.Check.{allCodes}
