@@ -1,11 +1,9 @@
 // Building a table from a list (document 01, "Build"). A refusal changes no word.
 ghost use Prim.Native.Nat.{_≤_};
 ghost use Rattle.hash.specs.Theorems.{Prime};
-ghost use Rattle.table.specs.Limits.{room};
+ghost use Rattle.table.specs.Limits.{room, mostPairs};
 ghost use Rattle.builder.specs.Build.{Built};
 ghost use Rattle.builder.specs.Built.{builtOf};
-ghost use Rattle.table.specs.Limits.{mostPairs};
-
 use lists::list::ListAnswer;
 use lists::list::validate;
 use table::limits::MOST_PAIRS;

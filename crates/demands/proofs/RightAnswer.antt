@@ -9,6 +9,7 @@ use lib.ListN.{length, getD}
 use borrow.Author.Tests.{eq-eqb, ne-eqb}
 use Rattle.hash.proofs.Orders.{Distinct}
 use Rattle.table.specs.Answers.{given, absent}
+use Rattle.table.specs.Pairs.{among, paired, valueWhere}
 use Rattle.table.proofs.Held.{same-index}
 use Rattle.demands.specs.Lists.{Listed, rightAnswer}
 
@@ -24,18 +25,18 @@ pub record Missing (codes schedules : List ℕ) (a : ℕ) : Type 0 where
   pub answer : rightAnswer codes schedules a ≡ absent
 
 right-here : (x s a : ℕ) (codes schedules : List ℕ) → x ≡ a → rightAnswer (x ∷ codes) (s ∷ schedules) a ≡ given (s ∷ [])
-unfolding rightAnswer
-right-here x s a codes schedules e = rw (eq-eqb x a e)
+unfolding rightAnswer among paired valueWhere
+right-here x s a codes schedules e = rw (eq-eqb a x (sym e))
 
 right-later :
     (x s a : ℕ) (codes schedules : List ℕ) → (x ≡ a → ⊥)
     → rightAnswer (x ∷ codes) (s ∷ schedules) a ≡ rightAnswer codes schedules a
-unfolding rightAnswer
-right-later x s a codes schedules ne = rw (ne-eqb x a ne)
+unfolding rightAnswer among paired valueWhere
+right-later x s a codes schedules ne = rw (ne-eqb a x (λ e. ne (sym e)))
 
 pub right-cases :
     (codes schedules : List ℕ) (a : ℕ) → length schedules ≡ length codes → Answered codes schedules a ⊎ Missing codes schedules a
-unfolding rightAnswer
+unfolding rightAnswer among paired valueWhere
 right-cases [] schedules a same = inr (record { nowhere = λ x h e. omega arith; answer = refl })
 right-cases (x ∷ codes) [] a same = absurd (omega arith)
 right-cases (x ∷ codes) (s ∷ schedules) a same =

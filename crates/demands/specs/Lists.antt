@@ -6,6 +6,7 @@ use mathlib.Core.Path.{_≡_}
 use lib.Dec.{eqb, ltb}
 use lib.ListN.{length, getD}
 use Rattle.table.specs.Answers.{Answer, given, absent}
+use Rattle.table.specs.Pairs.{among, paired, valueWhere}
 use Rattle.table.specs.Words.{codeCount, cellCount, blockStart, blockEnd, blockOf, ownCell}
 
 -- a pair stands in a list
@@ -22,9 +23,8 @@ pub record SamePairs (codes schedules codes′ schedules′ : List ℕ) : Type 0
 
 -- the right answer to a code: found with its listed schedule if it is listed, otherwise absent
 unfoldable pub rightAnswer : List ℕ → List ℕ → ℕ → Answer
-rightAnswer [] schedules a = absent
-rightAnswer (x ∷ codes) [] a = absent
-rightAnswer (x ∷ codes) (s ∷ schedules) a = cond (eqb x a) (given (s ∷ [])) (rightAnswer codes schedules a)
+unfolding among paired valueWhere
+rightAnswer codes schedules a = cond (among a codes) (given (valueWhere (eqb a) (paired codes schedules) ∷ [])) absent
 
 -- words that are enough for any list of n pairs: 8n - 1, and 3 for none
 unfoldable pub enough : ℕ → ℕ

@@ -13,8 +13,7 @@ use lib.Seq.{take-length}
 use Rattle.hash.specs.Hash.{Codes}
 use Rattle.hash.proofs.Members.{codes-cons, codes-tail, codes-new}
 use Rattle.table.proofs.First.{First}
-use Rattle.table.specs.Pairs.{Pair, codesOf}
-use Rattle.table.specs.Pairs.{among}
+use Rattle.table.specs.Pairs.{Pair, codesOf, pairsWhere, among}
 use Rattle.table.proofs.Among.{among-at, among-none}
 use Rattle.editor.specs.Edit.{without, withPair}
 use Rattle.editor.specs.code.Lists.{omit}
@@ -55,15 +54,15 @@ module _ (code : ℕ) where
   -- ---- the pairs without it
 
   without-here : (r : Pair) (xs : List Pair) → r .code ≡ code → without code (r ∷ xs) ≡ without code xs
-  unfolding without
+  unfolding without pairsWhere
   without-here r xs e = rw (eq-eqb (r .code) code e)
 
   without-later : (r : Pair) (xs : List Pair) → (r .code ≡ code → ⊥) → without code (r ∷ xs) ≡ r ∷ without code xs
-  unfolding without
+  unfolding without pairsWhere
   without-later r xs ne = rw (ne-eqb (r .code) code ne)
 
   without-none : (xs : List Pair) → (List·Memᴰ code (codesOf xs) → ⊥) → without code xs ≡ xs
-  unfolding without
+  unfolding without pairsWhere
   without-none [] none = refl
   without-none (r ∷ xs) none =
       without-later r xs (λ e. none (List·Memᴰ·head (sym e)))
@@ -71,7 +70,7 @@ module _ (code : ℕ) where
 
   -- of different codes, those but the one at its index
   pub without-at : {p : ℕ} (xs : List Pair) (i : ℕ) → Codes p (codesOf xs) → At code (codesOf xs) i → without code xs ≡ omit i xs
-  unfolding without omit
+  unfolding without pairsWhere omit
   without-at [] i c f = refl
   without-at (r ∷ xs) zero c f =
       let e = at-here (r .code) (codesOf xs) f in
@@ -83,7 +82,7 @@ module _ (code : ℕ) where
   -- ---- what is left
 
   pub without-mem : {r : Pair} (xs : List Pair) → List·Memᴰ r (without code xs) → List·Memᴰ r xs × (r .code ≡ code → ⊥)
-  unfolding without
+  unfolding without pairsWhere
   without-mem [] m = absurd (List·Memᴰ·not-nil m)
   without-mem {r} (x ∷ xs) m =
       elim (ℕ-discrete (x .code) code) [
@@ -103,7 +102,7 @@ module _ (code : ℕ) where
       (rw same at (Memᴰ·map (λ (x : Pair). x .code) there), λ e. other (same ∙ e))
 
   pub without-codes : {p : ℕ} (xs : List Pair) → Codes p (codesOf xs) → Codes p (codesOf (without code xs))
-  unfolding without
+  unfolding without pairsWhere
   without-codes [] c = c
   without-codes (x ∷ xs) c =
       let rest = without-codes xs (codes-tail c) in

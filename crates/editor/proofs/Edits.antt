@@ -148,8 +148,8 @@ module _ {p limit : ℕ} {words codes schedules : List ℕ} {n code i : ℕ} (x 
   full schedule lent e = rw (full-is, eq-eqb i limit e)
 
   -- how many pairs there are with the code, old or new
-  grown-is : cond (eqb i n) (n + 1) n ≡ suc (length (without code (pairsIn words)))
-  grown-is =
+  count-is : cond (eqb i n) (n + 1) n ≡ suc (length (without code (pairsIn words)))
+  count-is =
       elim (decLt i n) [
         | yes l ↦ rw (ne-eqb i n (λ e. omega arith)) (sym (left-fewer l))
         | no g ↦ rw (eq-eqb i n (omega (arith, index-le))) (omega (arith, left-all (omega arith)))
@@ -164,7 +164,7 @@ module _ {p limit : ℕ} {words codes schedules : List ℕ} {n code i : ℕ} (x 
       = omit-take (map g (pairsIn words)) list i (rw long front) (omega (arith, index-le)) in
       let size : length (without code (pairsIn words)) ≡ length (map g (without code (pairsIn words)))
       = sym (length-map (without code (pairsIn words)) g) in
-      rw grown-is (ap (λ (r : List ℕ). a ∷ r) (rw size (rw (left-list g) at left)))
+      rw count-is (ap (λ (r : List ℕ). a ∷ r) (rw size (rw (left-list g) at left)))
 
   module _ (room : i ≡ limit → ⊥) where
     pub room-left : i < limit
@@ -182,7 +182,7 @@ module _ {p limit : ℕ} {words codes schedules : List ℕ} {n code i : ℕ} (x 
         (put-code : codes′ ≡ code ∷ omit i codes) (put-schedule : schedules′ ≡ schedule ∷ omit i schedules)
       where
         pub put-few : m ≤ limit
-        put-few = rw (size, grown-is) few-with
+        put-few = rw (size, count-is) few-with
 
         put-codes : take m codes′ ≡ codesOf (withPair code schedule (pairsIn words))
         unfolding withPair

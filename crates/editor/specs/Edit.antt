@@ -1,7 +1,7 @@
 -- Putting one code in and taking one out, into a second buffer (document 01, "Put in, take out"), for any prime p and limit on the pairs.
 use Prim.Native.Nat.{ℕ, _-_}
-use mathlib.Core.Bool.{Bool, not, cond, _&&_}
-use mathlib.Core.List.{List, [], _∷_}
+use mathlib.Core.Bool.{Bool, not, _&&_}
+use mathlib.Core.List.{List, _∷_}
 use mathlib.Core.Path.{_≡_}
 use lib.Dec.{eqb}
 use lib.ListN.{length}
@@ -9,13 +9,13 @@ use Rattle.table.specs.Answers.{Answer, refuse, orRefused, intoRoom, outside, f
 use Rattle.table.specs.Words.{codeCount}
 use Rattle.table.specs.TwoLevel.{wordsNeeded, tableOf}
 use Rattle.audit.specs.Check.{checkOf}
-use Rattle.table.specs.Pairs.{Pair, codesOf, schedulesOf, among}
+use Rattle.table.specs.Pairs.{Pair, codesOf, schedulesOf, pairsWhere, among}
 use Rattle.reader.specs.Pairs.{pairsIn}
 
 -- the pairs without a code
 unfoldable pub without : ℕ → List Pair → List Pair
-without code [] = []
-without code (r ∷ pairs) = cond (eqb (r .code) code) (without code pairs) (r ∷ without code pairs)
+unfolding pairsWhere
+without code pairs = pairsWhere (λ a. not (eqb a code)) pairs
 
 -- the pairs with a code put in, in place of its old schedule
 unfoldable pub withPair : ℕ → ℕ → List Pair → List Pair

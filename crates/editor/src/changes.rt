@@ -21,8 +21,8 @@ pub(crate) fn position(codes: &[u32], code: u32) -> usize
     i
 }
 
-// Leaves out the element with index i and puts another first: those before i move up by one.
-pub(crate) fn put_first(list: &mut [u32], i: usize, first: u32)
+// Inserts at the front, over the element with index i: those before it move up by one.
+pub(crate) fn insert_front(list: &mut [u32], i: usize, first: u32)
     requires { ⌜ i < length (now list) ⌝ }
     ensures { λ _. ⌜ now (list .exit) ≡ first ∷ omit i (now (list .entry)) ⌝ }
 {
@@ -34,8 +34,8 @@ pub(crate) fn put_first(list: &mut [u32], i: usize, first: u32)
     list[0] = first;
 }
 
-// Leaves out the element with index i of the first n: those after it move down by one. Later places are kept.
-pub(crate) fn leave_out(list: &mut [u32], n: usize, i: usize)
+// Removes the element with index i of the first n: those after it move down by one.
+pub(crate) fn remove_at(list: &mut [u32], n: usize, i: usize)
     requires { ⌜ (i < n) × (n ≤ length (now list)) ⌝ }
     ensures { λ _. ⌜ take (n - 1) (now (list .exit)) ≡ omit i (take n (now (list .entry))) ⌝ }
 {

@@ -5,15 +5,14 @@ ghost use mathlib.Core.Path.{_≡_};
 ghost use lib.Dec.{eqb};
 ghost use Rattle.hash.specs.Theorems.{Prime};
 ghost use Rattle.audit.specs.WellFormed.{WellFormed};
-ghost use Rattle.table.specs.Limits.{room};
+ghost use Rattle.table.specs.Limits.{room, mostPairs};
 ghost use Rattle.editor.specs.Edit.{Inserted, Removed};
 ghost use Rattle.editor.specs.Edited.{editedOf};
 ghost use Rattle.lists.specs.Valid.{Valid};
 ghost use Rattle.editor.specs.code.Editing.{InRange, Rebuilding, PutIn, TakenOut};
-ghost use Rattle.table.specs.Limits.{mostPairs};
-use crate::changes::leave_out;
+use crate::changes::insert_front;
 use crate::changes::position;
-use crate::changes::put_first;
+use crate::changes::remove_at;
 use audit::check::Checked;
 use audit::check::check_for;
 use builder::build::BuildAnswer;
@@ -57,8 +56,8 @@ fn rebuild(p: u32, limit: u32, codes: &[u32], schedules: &[u32], second: &mut [u
     }
 }
 
-// The pairs that there are with the code, whose index is n where it is new.
-fn grown(n: usize, i: usize) -> usize
+// How many of n pairs there are with the code put in: its index is n where it is new.
+fn count_with(n: usize, i: usize) -> usize
     requires { ⌜ n < 4294967296 ⌝ }
     ensures { λ r. ⌜ r ≡ cond (eqb i n) (n + 1) n ⌝ }
 {
@@ -68,7 +67,7 @@ fn grown(n: usize, i: usize) -> usize
     n
 }
 
-// From 53 on: puts a pair first in the lists of an accepted table, in place of the code's own.
+// From 53 on: inserts a pair at the front of an accepted table's lists, in place of the code's own.
 fn put_in(p: u32, limit: u32, words: &[u32], code: u32, schedule: u32, second: &mut [u32]) -> Edited
     requires { ⌜ Prime p ⌝ }
     requires { ⌜ limit ≤ room ⌝ }
@@ -84,9 +83,9 @@ fn put_in(p: u32, limit: u32, words: &[u32], code: u32, schedule: u32, second: &
     if i == wide(limit) {
         return Edited::Full;
     }
-    put_first(&mut codes, i, code);
-    put_first(&mut schedules, i, schedule);
-    let m = grown(n, i);
+    insert_front(&mut codes, i, code);
+    insert_front(&mut schedules, i, schedule);
+    let m = count_with(n, i);
     rebuild(p, limit, &codes[..m], &schedules[..m], second)
 }
 
@@ -105,8 +104,8 @@ fn take_out(p: u32, limit: u32, words: &[u32], code: u32, second: &mut [u32]) ->
     if i == n {
         return Edited::NotThere;
     }
-    leave_out(&mut codes, n, i);
-    leave_out(&mut schedules, n, i);
+    remove_at(&mut codes, n, i);
+    remove_at(&mut schedules, n, i);
     let m = n - 1;
     rebuild(p, limit, &codes[..m], &schedules[..m], second)
 }

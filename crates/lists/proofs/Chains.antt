@@ -1,5 +1,5 @@
 -- Chains of codes with equal residues mod w. A code equal to a has a's residue, so that all such codes stand on one chain: going from a place
--- to the one before it on the chain leaves out no code equal to a. `Chains` is what `first_repeated` keeps of its two arrays.
+-- to the one before it on the chain leaves out no code equal to a. `HashChains` is what `first_repeated` keeps of its two arrays.
 use Prim.Native.Nat.{ℕ, zero, suc, _+_, _-_, _%_, _<_, _≤_}
 use mathlib.Core.Bool.{true, false}
 use mathlib.Core.List.{List}
@@ -12,7 +12,7 @@ use borrow.Author.Tests.{eq-eqb, ne-eqb}
 use lib.ListN.{length, getD, take, set, replicate, length-set, length-replicate, getD-replicate}
 use lib.Seq.{getD-set-same, getD-set-other}
 use Rattle.table.specs.Pairs.{among}
-use Rattle.lists.specs.code.Chains.{latest, Chain}
+use Rattle.lists.specs.code.Chains.{latest, HashChain}
 use Rattle.table.proofs.Among.{among-here, among-other}
 
 -- the step of `latest`, by its two cases
@@ -55,9 +55,9 @@ latest-among w a codes (suc n) l =
     ]
 
 -- the walk of a chain: from `at` it goes on at `at′`
-pub record Walked (w : ℕ) (codes next : List ℕ) (at a at′ : ℕ) : Type 0 where
+pub record ChainWalked (w : ℕ) (codes next : List ℕ) (at a at′ : ℕ) : Type 0 where
   pub less : at′ < at
-  pub chain : Chain w codes next at′ a
+  pub chain : HashChain w codes next at′ a
   pub same : among a (take at′ codes) ≡ among a (take at codes)
 
 pub chain-none : (a : ℕ) (codes : List ℕ) (at : ℕ) → at ≤ 0 → among a (take at codes) ≡ false
@@ -65,15 +65,15 @@ unfolding among
 chain-none a codes at l = let e : at ≡ 0 = omega arith in rw e
 
 pub chain-found :
-    {w : ℕ} {codes next : List ℕ} {at a : ℕ} → Chain w codes next at a → 0 < at → getD codes (at - 1) 0 ≡ a
+    {w : ℕ} {codes next : List ℕ} {at a : ℕ} → HashChain w codes next at a → 0 < at → getD codes (at - 1) 0 ≡ a
     → among a (take at codes) ≡ true
 chain-found {w} {codes} {next} {at} {a} r l e =
     let s : at ≡ suc (at - 1) = omega arith in
     rw s (among-here a codes (at - 1) (omega (arith, r .within)) e)
 
 pub chain-next :
-    {w : ℕ} {codes next : List ℕ} {at a : ℕ} → Chain w codes next at a → 0 < at → (getD codes (at - 1) 0 ≡ a → ⊥)
-    → Walked w codes next at a (getD next (at - 1) 0)
+    {w : ℕ} {codes next : List ℕ} {at a : ℕ} → HashChain w codes next at a → 0 < at → (getD codes (at - 1) 0 ≡ a → ⊥)
+    → ChainWalked w codes next at a (getD next (at - 1) 0)
 chain-next {w} {codes} {next} {at} {a} r l ne =
     let s : at ≡ suc (at - 1) = omega arith in
     let on : getD codes (at - 1) 0 % w ≡ a % w = r .on-chain (at - 1) s in
@@ -95,13 +95,13 @@ chain-next {w} {codes} {next} {at} {a} r l ne =
     }
 
 -- what the loop keeps of its two arrays: for each residue the last of the first i codes with it, and for each of those codes the one before it
-pub record Chains (w : ℕ) (codes last next : List ℕ) (i : ℕ) : Type 0 where
+pub record HashChains (w : ℕ) (codes last next : List ℕ) (i : ℕ) : Type 0 where
   pub some : 0 < w
   pub room : length last ≡ w
   pub lasts : (h : ℕ) → h < w → getD last h 0 ≡ latest w h codes i
   pub links : (x : ℕ) → x < i → getD next x 0 ≡ latest w (getD codes x 0 % w) codes x
 
-pub chains-start : (w : ℕ) (codes next : List ℕ) → 0 < w → Chains w codes (replicate w 0) next 0
+pub chains-start : (w : ℕ) (codes next : List ℕ) → 0 < w → HashChains w codes (replicate w 0) next 0
 unfolding latest
 chains-start w codes next pos =
     record {
@@ -113,8 +113,8 @@ chains-start w codes next pos =
 
 -- the next code is looked for from the last of its residue on
 pub chains-chain :
-    {w : ℕ} {codes last next : List ℕ} {i : ℕ} → Chains w codes last next i → (a : ℕ) → i ≤ length codes
-    → Chain w codes next (getD last (a % w) 0) a
+    {w : ℕ} {codes last next : List ℕ} {i : ℕ} → HashChains w codes last next i → (a : ℕ) → i ≤ length codes
+    → HashChain w codes next (getD last (a % w) 0) a
 chains-chain {w} {codes} {last} {next} {i} r a l =
     let e : getD last (a % w) 0 ≡ latest w (a % w) codes i = r .lasts (a % w) (mod-lt a (r .some)) in
     let le : getD last (a % w) 0 ≤ i = omega (arith, latest-le w (a % w) codes i) in
@@ -125,14 +125,14 @@ chains-chain {w} {codes} {last} {next} {i} r a l =
     }
 
 pub chains-among :
-    {w : ℕ} {codes last next : List ℕ} {i : ℕ} → Chains w codes last next i → (a : ℕ) → i ≤ length codes
+    {w : ℕ} {codes last next : List ℕ} {i : ℕ} → HashChains w codes last next i → (a : ℕ) → i ≤ length codes
     → among a (take (getD last (a % w) 0) codes) ≡ among a (take i codes)
 chains-among {w} {codes} {last} {next} {i} r a l = rw (r .lasts (a % w) (mod-lt a (r .some))) (latest-among w a codes i l)
 
 -- and then becomes the last itself
 pub chains-more :
-    {w : ℕ} {codes last next : List ℕ} {i : ℕ} → Chains w codes last next i → i < length next
-    → Chains w codes (set last (getD codes i 0 % w) (i + 1)) (set next i (getD last (getD codes i 0 % w) 0)) (i + 1)
+    {w : ℕ} {codes last next : List ℕ} {i : ℕ} → HashChains w codes last next i → i < length next
+    → HashChains w codes (set last (getD codes i 0 % w) (i + 1)) (set next i (getD last (getD codes i 0 % w) 0)) (i + 1)
 chains-more {w} {codes} {last} {next} {i} r ln =
     let h : ℕ = getD codes i 0 % w in
     let lw : h < w = mod-lt (getD codes i 0) (r .some) in

@@ -1,8 +1,8 @@
--- What the proofs of the functions cite: how often a code stands in a list, chains, bits, the tests in their order; then that none refuses exactly the
+-- What the proofs of the functions cite: how often a code occurs, hash chains, the bit set of residues, the tests in their order; then that none refuses exactly the
 -- valid lists.
-mod Times
+mod Occurrences
 mod Chains
-mod Marking
+mod Residues
 mod Refusals
 pub mod Valid
 pub mod Answered

@@ -4,8 +4,8 @@ use mathlib.Core.List.{List}
 use mathlib.Core.Path.{_≡_, sym, ap, _∙_}
 use native.Mathlib.Omega.{arith}
 use borrow.Author.Tests.{eq-eqb, ne-eqb, lt-ltb, le-ltb}
-use lib.ListN.{length, getD}
-use Rattle.table.specs.Answers.{Answer, refused, outside, firstOf}
+use lib.ListN.{length}
+use Rattle.table.specs.Answers.{Answer, refused, firstOf}
 use Rattle.lists.specs.List.{badCode, badSchedule, repeated, listOr}
 
 -- no such index is found

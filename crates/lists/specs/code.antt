@@ -1,3 +1,3 @@
--- The chains and the bits by which a repeated code is found.
+-- The hash chains by which a repeated code is found, and the tests before.
 pub mod Chains
-pub mod Marks
+pub mod Repeats

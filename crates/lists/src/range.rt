@@ -4,7 +4,7 @@ ghost use lib.ListN.{length, getD};
 ghost use Rattle.table.specs.Answers.{firstOf, outside, some};
 use table::numbers::outside;
 
-// Whether some number of a list is not from 1 to high: all are tested, without a branch.
+// Whether some number of a list is not from 1 to high: all are tested, branch-free.
 fn some_outside(high: u32, list: &[u32]) -> bool
     ensures { λ r. ⌜ r ≡ some (length (now (list .entry))) (λ i. outside 1 high (getD (now (list .entry)) i 0)) ⌝ }
 {

@@ -5,17 +5,16 @@ ghost use lib.ListN.{length, take};
 ghost use Rattle.table.specs.Answers.{firstOf};
 ghost use Rattle.table.specs.Limits.{room};
 ghost use Rattle.table.specs.Pairs.{among};
-ghost use Rattle.lists.specs.code.Marks.{timesIn};
+ghost use Rattle.lists.specs.code.Repeats.{occurrences, MayRepeat};
 ghost use Rattle.lists.specs.List.{repeated};
-ghost use Rattle.lists.specs.code.Chains.{Chain};
-ghost use Rattle.lists.specs.code.Marks.{Met};
+ghost use Rattle.lists.specs.code.Chains.{HashChain};
 use table::limits::ROOM;
 
-// Whether a is among the codes before `from`, on whose chain of equal residues it would be. A chain goes from a code's index plus one to
-// that of the one before it, down to 0.
+// Whether a is among the codes before `from`, by the hash chain of its residue. A chain goes from a code's index plus one to that of the one
+// before it, down to 0.
 fn in_chain(codes: &[u32], next: &[u16; ROOM], from: usize, a: u32) -> bool
     requires { ⌜ length (now codes) ≤ room ⌝ }
-    requires { ⌜ Chain room (now codes) (now next) from a ⌝ }
+    requires { ⌜ HashChain room (now codes) (now next) from a ⌝ }
     ensures { λ r. ⌜ r ≡ among a (take from (now (codes .entry))) ⌝ }
 {
     let mut at = from;
@@ -28,7 +27,7 @@ fn in_chain(codes: &[u32], next: &[u16; ROOM], from: usize, a: u32) -> bool
     false
 }
 
-// The first code that is equal to an earlier one, or the list's length. Codes are compared along chains of equal residues only.
+// The first code that is equal to an earlier one, or the list's length. A code is compared with those on its own hash chain only.
 fn first_by_chains(codes: &[u32]) -> usize
     requires { ⌜ length (now codes) ≤ room ⌝ }
     ensures { λ r. ⌜ r ≡ firstOf (length (now (codes .entry))) (repeated (now (codes .entry))) ⌝ }
@@ -51,10 +50,10 @@ fn first_by_chains(codes: &[u32]) -> usize
     i
 }
 
-// How often a is among the codes. All of them are compared, without a branch.
-fn times(codes: &[u32], a: u32) -> u32
+// How often a is among the codes. All of them are compared, branch-free.
+fn count_occurrences(codes: &[u32], a: u32) -> u32
     requires { ⌜ length (now codes) ≤ room ⌝ }
-    ensures { λ r. ⌜ r ≡ timesIn a (now (codes .entry)) ⌝ }
+    ensures { λ r. ⌜ r ≡ occurrences a (now (codes .entry)) ⌝ }
 {
     let mut found: u32 = 0;
     let mut j = 0;
@@ -69,37 +68,36 @@ fn times(codes: &[u32], a: u32) -> u32
 // repeated.
 fn some_repeated(codes: &[u32]) -> bool
     requires { ⌜ length (now codes) ≤ room ⌝ }
-    ensures { λ r. ⌜ Met (now (codes .entry)) r ⌝ }
+    ensures { λ r. ⌜ MayRepeat (now (codes .entry)) r ⌝ }
 {
     let mut found: u32 = 0;
     let mut i = 0;
     while i < codes.len() {
-        found += times(codes, codes[i]);
+        found += count_occurrences(codes, codes[i]);
         i += 1;
     }
     found != (codes.len() as u32)
 }
 
-// Whether some code shares its residue mod 65,536 with an earlier one, by a bit for each residue. Where none does, no code is repeated.
-fn some_met(codes: &[u32]) -> bool
-    ensures { λ r. ⌜ Met (now (codes .entry)) r ⌝ }
+// Whether some code shares its residue mod 65,536 with an earlier one, by a bit set of residues. Where none does, no code is repeated.
+fn some_collision(codes: &[u32]) -> bool
+    ensures { λ r. ⌜ MayRepeat (now (codes .entry)) r ⌝ }
 {
     let mut seen = [0u64; 1024];
-    let mut met: u64 = 0;
+    let mut shared: u64 = 0;
     let mut i = 0;
     while i < codes.len() {
         let residue = (codes[i] as usize) % 65536;
         let bit = 1u64 << (residue % 64);
         let before = seen[residue / 64];
-        met = met | (before & bit);
+        shared = shared | (before & bit);
         seen[residue / 64] = before | bit;
         i += 1;
     }
-    met != 0
+    shared != 0
 }
 
-// The first code that is equal to an earlier one, or the list's length. Whether there is one is told without a branch on any code; it is looked
-// for only then.
+// The first code that is equal to an earlier one, or the list's length. Whether there may be one is tested branch-free; it is looked for only then.
 pub(crate) fn first_repeated(codes: &[u32]) -> usize
     requires { ⌜ length (now codes) ≤ room ⌝ }
     ensures { λ r. ⌜ r ≡ firstOf (length (now (codes .entry))) (repeated (now (codes .entry))) ⌝ }
@@ -111,7 +109,7 @@ pub(crate) fn first_repeated(codes: &[u32]) -> usize
         }
         return first_by_chains(codes);
     }
-    if !some_met(codes) {
+    if !some_collision(codes) {
         return n;
     }
     first_by_chains(codes)

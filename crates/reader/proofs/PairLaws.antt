@@ -1,6 +1,6 @@
 -- The pairs read from a well-formed table: each cell that holds a code has one, and a code stands in its own cell only, so the codes are
 -- different. They are exactly the codes that a lookup finds, with their schedules.
-use Prim.Native.Nat.{ℕ, _+_, _*_, _<_, _≤_}
+use Prim.Native.Nat.{ℕ, _+_, _<_, _≤_}
 use native.Mathlib.Decide.{decLt}
 use native.Mathlib.Nat.{pos-of-ne-zero}
 use native.Mathlib.Omega.{arith}
@@ -9,11 +9,10 @@ use mathlib.Core.Logic.{_⊎_, inl, inr, ⊎-elim}
 use mathlib.Core.Path.{_≡_, sym, ap, _∙_}
 use borrow.Author.Tests.{eqb-true, eqb-false}
 use lib.Dec.{eqb}
-use lib.ListN.{length, getD, drop, length-drop}
-use lib.Seq.{getD-take, getD-drop, length-take-le}
+use lib.ListN.{length, getD}
 use Rattle.hash.specs.Hash.{Codes}
 use Rattle.table.specs.Answers.{given, firstOf}
-use Rattle.table.specs.Words.{codeCount, cellCount, total, cellCode, cellSchedule, ownCell}
+use Rattle.table.specs.Words.{codeCount, cellCount, cellCode, cellSchedule, ownCell}
 use Rattle.table.specs.Lookup.{lookupOf}
 use Rattle.table.proofs.First.{First, first-is}
 use Rattle.audit.specs.Check.{allCodes}
@@ -21,24 +20,8 @@ use Rattle.audit.specs.WellFormed.{WellFormed}
 use Rattle.table.specs.Pairs.{Pair, codesOf}
 use Rattle.reader.specs.Pairs.{allSchedules, stored, pairsIn}
 use Rattle.audit.proofs.Lookups.{lookup-range, lookup-found, lookup-absent}
+use Rattle.reader.proofs.Keys.{codes-length, schedules-length, code-at, schedule-at}
 use Rattle.reader.proofs.Rising.{InCell, stored-length, stored-in, in-stored, stored-codes, rising-length, rising-mem, rising-codes, rising-strict}
-
--- ---- the cells of a table that is whole
-
-module _ (words : List ℕ) (whole : total words ≤ length words) where
-  pub codes-length : length (allCodes words) ≡ cellCount words
-  codes-length = length-take-le (cellCount words) (drop (3 + 2 * codeCount words) words) (rw length-drop (omega arith))
-
-  pub schedules-length : length (allSchedules words) ≡ cellCount words
-  schedules-length =
-      length-take-le (cellCount words) (drop (3 + 2 * codeCount words + cellCount words) words) (rw length-drop (omega arith))
-
-  module _ (i : ℕ) (l : i < cellCount words) where
-    pub code-at : getD (allCodes words) i 0 ≡ cellCode words i
-    code-at = rw (getD-take, getD-drop)
-
-    pub schedule-at : getD (allSchedules words) i 0 ≡ cellSchedule words i
-    schedule-at = rw (getD-take, getD-drop)
 
 -- the pairs of the cells that hold a code
 abbrev inCells : List ℕ → List Pair
@@ -70,15 +53,15 @@ module _ {p limit : ℕ} {words : List ℕ} (f : WellFormed p limit words) where
       below : (i : ℕ) → i < length (allCodes words) → getD (allCodes words) i 0 < p
       below i l =
           let l : i < cellCount words = rw (codes-length words (f .whole)) at l in
-          rw (code-at words (f .whole) i l) (f .code-in-range i l)
+          rw (code-at words i l) (f .code-in-range i l)
 
       apart :
           (i j : ℕ) → i < j → j < length (allCodes words) → 0 < getD (allCodes words) i 0
           → getD (allCodes words) i 0 ≡ getD (allCodes words) j 0 → ⊥
       apart i j lt l pos e =
           let l : j < cellCount words = rw (codes-length words (f .whole)) at l in
-          let at-i = code-at words (f .whole) i (omega arith) in
-          let at-j = code-at words (f .whole) j l in
+          let at-i = code-at words i (omega arith) in
+          let at-j = code-at words j l in
           omega (
             arith,
             f .own i (omega arith) (omega (arith, at-i)),
@@ -114,8 +97,8 @@ module _ {p limit : ℕ} {words : List ℕ} (f : WellFormed p limit words) where
       let l : h .cell < cellCount words = rw (codes-length words (f .whole)) at (h .in-range) in (
         h .cell,
         l,
-        sym (code-at words (f .whole) (h .cell) l) ∙ h .code-there,
-        sym (schedule-at words (f .whole) (h .cell) l) ∙ h .schedule-there,
+        sym (code-at words (h .cell) l) ∙ h .code-there,
+        sym (schedule-at words (h .cell) l) ∙ h .schedule-there,
         h .held,
       )
 
@@ -129,8 +112,8 @@ module _ {p limit : ℕ} {words : List ℕ} (f : WellFormed p limit words) where
       (record {
         cell = i;
         in-range = rw (codes-length words (f .whole)) l;
-        code-there = code-at words (f .whole) i l ∙ code;
-        schedule-there = schedule-at words (f .whole) i l ∙ schedule;
+        code-there = code-at words i l ∙ code;
+        schedule-there = schedule-at words i l ∙ schedule;
         held = held;
       }))
 

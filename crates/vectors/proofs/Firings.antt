@@ -7,8 +7,7 @@ use Rattle.table.specs.TwoLevel.{tabulate, blocksMultiplier, cellsMultiplier, s
 use Rattle.table.specs.Lookup.{badSizes, inCell, inBlock, lookupOf}
 use Rattle.panel.specs.Panel.{walkOf, panelOf}
 use Rattle.table.specs.Pairs.{paired, valueWhere, among}
-use Rattle.lists.specs.List.{repeated}
-use Rattle.lists.specs.List.{badCode, badSchedule, listOr}
+use Rattle.lists.specs.List.{repeated, badCode, badSchedule, listOr}
 use Rattle.builder.specs.Build.{buildOf}
 use Rattle.vectors.specs.Firings.{Firings}
 

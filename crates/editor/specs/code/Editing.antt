@@ -1,11 +1,11 @@
 -- What the parts of putting in and taking out rely on and promise.
 use Prim.Native.Nat.{ℕ, _<_, _≤_}
 use mathlib.Core.Bool.{not, _&&_}
-use mathlib.Core.List.{List, [], _∷_}
+use mathlib.Core.List.{List}
 use mathlib.Core.Path.{_≡_}
-use lib.Dec.{eqb, ltb}
+use lib.Dec.{eqb}
 use lib.ListN.{length}
-use Rattle.table.specs.Answers.{Answer, given, refuse, filled, intoRoom}
+use Rattle.table.specs.Answers.{Answer, refuse, filled, intoRoom}
 use Rattle.table.specs.Words.{codeCount}
 use Rattle.table.specs.TwoLevel.{wordsNeeded, tableOf}
 use Rattle.reader.specs.Pairs.{pairsIn}

@@ -17,10 +17,10 @@ written c = c .before .before .before .before .before .before
 abbrev root : tie.After-position → tie.Start
 root c = written c .before .before .before .before .before
 
-abbrev put : tie.After-put-first2 → tie.After-put-first
+abbrev put : tie.After-insert-front2 → tie.After-insert-front
 put c = c .before .before .before
 
-abbrev tested : tie.After-put-first → tie.Else1
+abbrev tested : tie.After-insert-front → tie.Else1
 tested c = c .before .before
 
 -- ---- the code's index among the pairs that are written; it is in the table, or the table is not full
@@ -46,19 +46,19 @@ slice-aggregate-position c = sym (length-take-le _ _ (search needs))
 returns : tie.Need-returns
 returns c = refusal 53 0 (full (found (c .before .before)) _ _ (c .if1 .taken ∙ c .before .wide2 .ensures .value))
 
-put-first-requires : tie.Need-put-first-requires
-put-first-requires c κs = omega (arith, small (c .before))
+insert-front-requires : tie.Need-insert-front-requires
+insert-front-requires c κs = omega (arith, small (c .before))
 
-put-first-requires-2 : tie.Need-put-first-requires-2
-put-first-requires-2 c κs = omega (arith, small (tested (c .before .before)))
+insert-front-requires-2 : tie.Need-insert-front-requires-2
+insert-front-requires-2 c κs = omega (arith, small (tested (c .before .before)))
 
-few : (c : tie.After-grown) → c .grown .result ≤ 2048
+few : (c : tie.After-count-with) → c .count-with .result ≤ 2048
 few c =
     let second = c .before .before in
     let e = tested (put second) in
     omega (
       arith,
-      put-few (found (e .before .before)) (room e) _ _ _ _ (c .grown .ensures) (put second .put-first .ensures) (second .put-first2 .ensures),
+      put-few (found (e .before .before)) (room e) _ _ _ _ (c .count-with .ensures) (put second .insert-front .ensures) (second .insert-front2 .ensures),
       root (e .before .before) .pre .1 .0,
     )
 
@@ -81,8 +81,8 @@ rebuild-requires c κs =
     let e = tested (put second) in
     let s = root (e .before .before) in
     let valid =
-    put-valid (found (e .before .before)) (room e) _ _ _ _ (g .grown .ensures) (put second .put-first .ensures)
-    (second .put-first2 .ensures) (s .pre .1 .1 .1) in
+    put-valid (found (e .before .before)) (room e) _ _ _ _ (g .count-with .ensures) (put second .insert-front .ensures)
+    (second .insert-front2 .ensures) (s .pre .1 .1 .1) in
     (s .pre .0, (s .pre .1 .0, valid))
 
 returns-2 : tie.Need-returns-2
@@ -91,8 +91,8 @@ returns-2 c =
     let g = r .before .before .before .before in
     let second = g .before .before in
     let e = tested (put second) in
-    put-outcome (found (e .before .before)) (room e) _ _ _ _ (g .grown .ensures) (put second .put-first .ensures)
-    (second .put-first2 .ensures) (r .rebuild .ensures)
+    put-outcome (found (e .before .before)) (room e) _ _ _ _ (g .count-with .ensures) (put second .insert-front .ensures)
+    (second .insert-front2 .ensures) (r .rebuild .ensures)
 
 pub put-in-spec : {M : Type 1} → statement M
 put-in-spec =
@@ -109,9 +109,9 @@ put-in-spec =
     (λ c κs. search needs)
     returns
     (λ c. search needs)
-    put-first-requires
+    insert-front-requires
     (λ c. search needs)
-    put-first-requires-2
+    insert-front-requires-2
     (λ c κs. search needs)
     array-share-prefix-codes-2
     slice-aggregate-rebuild

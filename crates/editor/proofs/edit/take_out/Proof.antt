@@ -17,10 +17,10 @@ written c = c .before .before .before .before .before .before
 abbrev root : tie.After-position → tie.Start
 root c = written c .before .before .before .before .before
 
-abbrev out : tie.After-leave-out2 → tie.After-leave-out
+abbrev out : tie.After-remove-at2 → tie.After-remove-at
 out c = c .before .before .before
 
-abbrev tested : tie.After-leave-out → tie.Else1
+abbrev tested : tie.After-remove-at → tie.Else1
 tested c = c .before .before
 
 -- ---- the code's index among the pairs that are written, all of which it is below
@@ -43,11 +43,11 @@ slice-aggregate-position c = sym (length-take-le _ _ (search needs))
 returns : tie.Need-returns
 returns c = refusal 55 0 (gone (found (c .before)) _ (c .if1 .taken))
 
-leave-out-requires : tie.Need-leave-out-requires
-leave-out-requires c κs = omega (arith, there (c .before))
+remove-at-requires : tie.Need-remove-at-requires
+remove-at-requires c κs = omega (arith, there (c .before))
 
-leave-out-requires-2 : tie.Need-leave-out-requires-2
-leave-out-requires-2 c κs = omega (arith, there (tested (c .before .before)))
+remove-at-requires-2 : tie.Need-remove-at-requires-2
+remove-at-requires-2 c κs = omega (arith, there (tested (c .before .before)))
 
 sub-m : tie.Need-sub-m
 sub-m c = omega (arith, there (tested (out (c .before))))
@@ -64,7 +64,7 @@ rebuild-requires c κs =
     let e = tested (out second) in
     let s = root (e .before) in (
       s .pre .0,
-      (s .pre .1 .0, out-valid (found (e .before)) (e .if1 .left) _ _ (out second .leave-out .ensures) (second .leave-out2 .ensures)),
+      (s .pre .1 .0, out-valid (found (e .before)) (e .if1 .left) _ _ (out second .remove-at .ensures) (second .remove-at2 .ensures)),
     )
 
 returns-2 : tie.Need-returns-2
@@ -72,7 +72,7 @@ returns-2 c =
     let r = c .before .before in
     let second = r .before .before .before .before .before in
     let e = tested (out second) in
-    out-outcome (found (e .before)) (e .if1 .left) _ _ (out second .leave-out .ensures) (second .leave-out2 .ensures) (r .rebuild .ensures)
+    out-outcome (found (e .before)) (e .if1 .left) _ _ (out second .remove-at .ensures) (second .remove-at2 .ensures) (r .rebuild .ensures)
 
 pub take-out-spec : {M : Type 1} → statement M
 take-out-spec =
@@ -88,9 +88,9 @@ take-out-spec =
     (λ c κs. search needs)
     returns
     (λ c. search needs)
-    leave-out-requires
+    remove-at-requires
     (λ c. search needs)
-    leave-out-requires-2
+    remove-at-requires-2
     sub-m
     (λ c. search needs)
     slice-aggregate-rebuild

@@ -1,6 +1,4 @@
 -- `lists::list::validate` meets its contract: its tests are the definition's, in the same order.
-use mathlib.Core.Path.{sym}
-use native.Mathlib.Omega.{arith}
 use borrow.Author.Needs.{needs}
 use Rattle.lists.specs.List.{badCode, badSchedule}
 use Rattle.lists.proofs.Refusals.{passes, lengths-differ, too-many-pairs, bad-code, bad-schedule, repeated-code, none-holds}

@@ -8,12 +8,12 @@ use lib.ListN.{length, getD}
 use Rattle.table.proofs.First.{Below, below-none, below-next, first-found, first-end}
 use Rattle.table.specs.Limits.{room}
 use Rattle.lists.specs.List.{repeated}
-use Rattle.lists.proofs.Chains.{Chains, chains-start, chains-chain, chains-among, chains-more}
+use Rattle.lists.proofs.Chains.{HashChains, chains-start, chains-chain, chains-among, chains-more}
 use Rattle.lists.proofs.repeats.first_by_chains.Statement.{statement}
 use Rattle.lists.proofs.repeats.first_by_chains.Tie as tie
 
 abbrev Inv-loop : tie.InvT-loop
-Inv-loop codes last₀ next₀ i₀ last next i = Chains room codes last next i × ((length next ≡ room) × ((i ≤ length codes) × Below (repeated codes) i))
+Inv-loop codes last₀ next₀ i₀ last next i = HashChains room codes last next i × ((length next ≡ room) × ((i ≤ length codes) × Below (repeated codes) i))
 
 abbrev μ-loop : tie.MeasureT-loop
 μ-loop codes last₀ next₀ i₀ last next i = length codes - i

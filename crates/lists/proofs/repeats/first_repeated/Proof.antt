@@ -10,7 +10,7 @@ returns : tie.Need-returns
 returns c = sym (first-none _ _ (c .before .some-repeated .ensures .none (not-true _ (c .if2 .taken))))
 
 returns-3 : tie.Need-returns-3
-returns-3 c = sym (first-none _ _ (c .before .some-met .ensures .none (not-true _ (c .if3 .taken))))
+returns-3 c = sym (first-none _ _ (c .before .some-collision .ensures .none (not-true _ (c .if3 .taken))))
 
 pub first-repeated-spec : {M : Type 1} → statement M
 first-repeated-spec =

@@ -5,13 +5,13 @@ use borrow.Author.Needs.{needs}
 use lib.ListN.{take}
 use Rattle.table.specs.Limits.{room}
 use Rattle.table.specs.Pairs.{among}
-use Rattle.lists.specs.code.Chains.{Chain}
+use Rattle.lists.specs.code.Chains.{HashChain}
 use Rattle.lists.proofs.Chains.{chain-none, chain-found, chain-next}
 use Rattle.lists.proofs.repeats.in_chain.Statement.{statement}
 use Rattle.lists.proofs.repeats.in_chain.Tie as tie
 
 abbrev Inv-loop : tie.InvT-loop
-Inv-loop codes next from a at₀ at = Chain room codes next at a × (among a (take at codes) ≡ among a (take from codes))
+Inv-loop codes next from a at₀ at = HashChain room codes next at a × (among a (take at codes) ≡ among a (take from codes))
 
 abbrev μ-loop : tie.MeasureT-loop
 μ-loop codes next from a at₀ at = at

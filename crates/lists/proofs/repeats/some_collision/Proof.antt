@@ -1,5 +1,5 @@
--- `lists::repeats::some_met` meets its contract. Invariant: while no mark was met, each code before i is marked and none repeated. The measure is
--- what is left.
+-- `lists::repeats::some_collision` meets its contract. Invariant: while no residue was shared, that of each code before i is in the bit set and none is
+-- repeated. The measure is what is left.
 use Prim.Native.Nat.{_-_}
 use mathlib.Core.Path.{refl}
 use native.Mathlib.Omega.{arith}
@@ -7,31 +7,31 @@ use borrow.Author.Needs.{needs}
 use borrow.Author.Tests.{eqb-true, not-false}
 use lib.ListN.{length}
 use Rattle.hash.proofs.BitSets.{single-is}
-use Rattle.lists.proofs.Marking.{Marking, marking-start, marking-more}
-use Rattle.lists.proofs.repeats.some_met.Statement.{statement}
-use Rattle.lists.proofs.repeats.some_met.Tie as tie
+use Rattle.lists.proofs.Residues.{ResiduesSeen, residues-start, residues-more}
+use Rattle.lists.proofs.repeats.some_collision.Statement.{statement}
+use Rattle.lists.proofs.repeats.some_collision.Tie as tie
 
 abbrev Inv-loop : tie.InvT-loop
-Inv-loop codes seen₀ met₀ i₀ seen met i = Marking codes i seen met
+Inv-loop codes seen₀ shared₀ i₀ seen shared i = ResiduesSeen codes i seen shared
 
 abbrev μ-loop : tie.MeasureT-loop
-μ-loop codes seen₀ met₀ i₀ seen met i = length codes - i
+μ-loop codes seen₀ shared₀ i₀ seen shared i = length codes - i
 
 loop-holds : tie.Need-loop-holds Inv-loop μ-loop
-loop-holds c = marking-start _ _ refl
+loop-holds c = residues-start _ _ refl
 
 loop-again : tie.Need-loop-again Inv-loop μ-loop
 loop-again c =
     let test = c .before in
-    marking-more (test .before .loop .inv) (test .loop-test .taken) _ (single-is _ (omega arith))
+    residues-more (test .before .loop .inv) (test .loop-test .taken) _ (single-is _ (omega arith))
 
 returns : tie.Need-returns Inv-loop μ-loop
 returns c =
     let at = c .before .loop in
-    record { none = λ e i l. at .inv .single (eqb-true (at .met) 0 (not-false _ e)) i (omega arith) }
+    record { none = λ e i l. at .inv .none-repeated (eqb-true (at .shared) 0 (not-false _ e)) i (omega arith) }
 
-pub some-met-spec : {M : Type 1} → statement M
-some-met-spec =
+pub some-collision-spec : {M : Type 1} → statement M
+some-collision-spec =
     tie.close
     (tie.spec
     Inv-loop

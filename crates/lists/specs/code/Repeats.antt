@@ -1,4 +1,4 @@
--- A quick test for repeats, which may be met without one.
+-- Tests for repeats before the first one is looked for.
 use Prim.Native.Nat.{ℕ, _+_, _<_}
 use mathlib.Core.Bool.{Bool, false, cond}
 use mathlib.Core.List.{List, [], _∷_}
@@ -7,11 +7,11 @@ use lib.Dec.{eqb}
 use lib.ListN.{length}
 use Rattle.lists.specs.List.{repeated}
 
--- where r is false no code is repeated
-pub record Met (codes : List ℕ) (r : Bool) : Type 0 where
+-- r may be true where no code is repeated, but not false where one is
+pub record MayRepeat (codes : List ℕ) (r : Bool) : Type 0 where
   pub none : r ≡ false → (i : ℕ) → i < length codes → repeated codes i ≡ false
 
 -- how often a stands among these codes
-unfoldable pub timesIn : ℕ → List ℕ → ℕ
-timesIn a [] = 0
-timesIn a (x ∷ codes) = cond (eqb x a) 1 0 + timesIn a codes
+unfoldable pub occurrences : ℕ → List ℕ → ℕ
+occurrences a [] = 0
+occurrences a (x ∷ codes) = cond (eqb x a) 1 0 + occurrences a codes
