@@ -7,9 +7,9 @@ use Rattle.audit.specs.Check.{badStart, badBlockMultiplier, badCell, misplaced,
 use Rattle.reader.specs.Pairs.{stored, place, rising, pairsIn}
 use Rattle.files.specs.Bytes.{wordsOf}
 use Rattle.decimal.specs.Decimal.{digitsOf, decimal}
-use Rattle.listing.specs.Listing.{refusedLine, headLine, pairLines, tableText, fileOf, listingOf}
+use Rattle.listing.specs.Listing.{refusedLine, headLine, pairLines, tableText, fileOf, textOf, listingOf}
 use Rattle.listing.specs.Printed.{Printed}
 
 pub printed : Printed
-unfolding hashOf firstOf blockOf cellIn ownCell badStart badBlockMultiplier badCell misplaced codesIn badSquare checkOf stored place rising pairsIn wordsOf digitsOf decimal refusedLine headLine pairLines tableText fileOf listingOf
+unfolding hashOf firstOf blockOf cellIn ownCell badStart badBlockMultiplier badCell misplaced codesIn badSquare checkOf stored place rising pairsIn wordsOf digitsOf decimal refusedLine headLine pairLines tableText fileOf textOf listingOf
 printed = record { P5 = refl; empty-table = refl; empty-file = refl; three-bytes = refl }
