@@ -18,16 +18,26 @@ use Rattle.reader.proofs.PairLaws.{pairs-length}
 use Rattle.audit.proofs.WellFormed.{accepted-or-refused, check-exactly}
 use Rattle.decimal.specs.code.Added.{Added}
 use Rattle.listing.specs.Listing.{FileListed}
-use Rattle.listing.specs.code.Texts.{numberedOf, tableLines, textOf}
-use Rattle.listing.specs.declared.texts.Numbered.the-variants.{Given, Refused}
+use Rattle.listing.specs.code.Lines.{tableLines}
+use Rattle.table.specs.Numbers.{Shown}
+use Rattle.table.specs.declared.answers.Numbered.{Numbered}
+use Rattle.audit.specs.Checked.{checkedOf}
+use Rattle.audit.specs.declared.check.Checked.{Checked}
+use Rattle.audit.specs.declared.check.Checked.the-variants.{Accepted, TooFewWords, TooManyCodes, TooManyCells, BadMultiplier, TooShort, BadStart, BadBlockMultiplier, BadCell, Misplaced, NotSquare, WrongCount}
+use Rattle.reader.specs.ReadBack.{readOf}
+use Rattle.reader.specs.declared.pairs.ReadBack.{ReadBack}
+use Rattle.reader.specs.declared.pairs.ReadBack.the-variants.{Pairs, TooFewPlaces, Refused}
+use Rattle.reader.proofs.pairs.ReadBack.{the-type}
+use denote.Enum.Declared.{tagOf}
+use types.Run.{OneOf, miss}
 use Rattle.files.specs.Bytes.{wordsOf}
-use Rattle.listing.specs.Listing.{refusedLine, tableText, fileOf, listingOf}
+use Rattle.listing.specs.Listing.{refusedLine, tableText, fileOf, textOf, listingOf}
 use Rattle.listing.proofs.LineLaws.{paired-same}
 
 -- the text for bytes, by their number
 module _ (p limit : ℕ) (bytes : List ℕ) where
   listing-is : listingOf p limit bytes ≡ textOf (fileOf p limit bytes) (wordsOf bytes)
-  unfolding listingOf textOf
+  unfolding listingOf
   listing-is = refl
 
   pub too-long : 65536 < length bytes → listingOf p limit bytes ≡ refusedLine 61 0
@@ -55,7 +65,7 @@ file-listed p limit bytes {old} a =
     }
 
 -- what is written of a well-formed table, with its pairs in the first n places of two arrays
-pub record Listed (p limit : ℕ) (words : List ℕ) (n : ℕ) (codes schedules : List ℕ) : Type 0 where
+pub record ListedTable (p limit : ℕ) (words : List ℕ) (n : ℕ) (codes schedules : List ℕ) : Type 0 where
   pub few : n ≤ limit
   pub three : 3 ≤ length words
   pub codes-length : length (take n codes) ≡ n
@@ -88,7 +98,7 @@ module _
   schedules-read : WellFormed p limit words → take (codeCount words) schedules′ ≡ schedulesOf (pairsIn words)
   schedules-read f = rw (r .schedules-at-exit, gives f) (take-at _ _ _ (mapped-length f (λ (x : Pair). x .schedule)))
 
-  listed-pairs : WellFormed p limit words → Listed p limit words (codeCount words) codes′ schedules′
+  listed-pairs : WellFormed p limit words → ListedTable p limit words (codeCount words) codes′ schedules′
   unfolding textOf tableText tableLines
   listed-pairs f =
       record {
@@ -99,7 +109,7 @@ module _
         text = rw (check-exactly p limit words .1 f, codes-read f, schedules-read f, paired-same (pairsIn words));
       }
 
-  pub listed : {n : ℕ} → Given n ≡ numberedOf answer → Listed p limit words n codes′ schedules′
+  pub listed : {n : ℕ} → answer ≡ given (n ∷ []) → ListedTable p limit words n codes′ schedules′
   listed {n} e =
       ⊎-elim
       (λ g.
@@ -111,10 +121,31 @@ module _
       (accepted-or-refused p limit words)
 
   pub refused-text :
-      {number value : ℕ} → Refused number value ≡ numberedOf answer → textOf (checkOf p limit words) words ≡ refusedLine number value
+      {shown : Numbered} → ((n : ℕ) → answer ≡ given (n ∷ []) → ⊥) → Shown answer shown
+      → textOf (checkOf p limit words) words ≡ refusedLine (shown .number) (shown .value)
   unfolding textOf
-  refused-text e =
+  refused-text none s =
       ⊎-elim
-      (λ g. let h = r .answers ∙ gives (check-exactly p limit words .0 g) in cc)
-      (λ (number, value, g). let h = refuses g in cc)
+      (λ g. absurd (none _ (r .answers ∙ gives (check-exactly p limit words .0 g))))
+      (λ (number, value, g). rw (g, s .number-shown, s .value-shown, refuses g))
       (accepted-or-refused p limit words)
+
+-- a check answers with no single value, nor does reading back where it gives no pairs
+one-value : (c : Checked) {n : ℕ} → checkedOf c ≡ given (n ∷ []) → _≡_ {A = ℕ} 0 1
+one-value (Accepted m total) e = cc
+one-value TooFewWords e = cc
+one-value TooManyCodes e = cc
+one-value TooManyCells e = cc
+one-value BadMultiplier e = cc
+one-value (TooShort total) e = cc
+one-value (BadStart j) e = cc
+one-value (BadBlockMultiplier j) e = cc
+one-value (BadCell i) e = cc
+one-value (Misplaced i) e = cc
+one-value (NotSquare j) e = cc
+one-value (WrongCount codes) e = cc
+
+pub no-pairs : (read : ReadBack) → OneOf (1 ∷ 2 ∷ []) (tagOf the-type read) → (n : ℕ) → readOf read ≡ given (n ∷ []) → ⊥
+no-pairs (Pairs m) k n e = absurd (miss (1 ∷ 2 ∷ []) 0 tt k)
+no-pairs (TooFewPlaces m) k n e = let z : _≡_ {A = ℕ} 0 1 = cc in omega arith
+no-pairs (Refused checked) k n e = let z = one-value checked e in omega arith

@@ -68,16 +68,21 @@ fileOf p limit bytes =
     (refuse (not (eqb (length bytes % 4) 0)) 62 0
     (checkOf p limit (wordsOf bytes)))
 
--- the whole text for a file's bytes
-unfoldable pub listingOf : ℕ → ℕ → List ℕ → List ℕ
-unfolding fileOf refusedLine tableText
-listingOf p limit bytes =
-    elim (fileOf p limit bytes) [
-      | given values ↦ tableText (wordsOf bytes)
+-- the text for the answer to a file with these words
+unfoldable pub textOf : Answer → List ℕ → List ℕ
+unfolding refusedLine tableText
+textOf answer words =
+    elim answer [
+      | given values ↦ tableText words
       | absent ↦ []
       | unknown i ↦ []
       | refused number value ↦ refusedLine number value
     ]
+
+-- the whole text for a file's bytes
+unfoldable pub listingOf : ℕ → ℕ → List ℕ → List ℕ
+unfolding fileOf textOf
+listingOf p limit bytes = textOf (fileOf p limit bytes) (wordsOf bytes)
 
 -- the listing of a file's bytes, written over the first bytes of what was lent; the answer is its length
 pub record FileListed (p limit : ℕ) (bytes old : List ℕ) (answer : ℕ) (new : List ℕ) : Type 0 where

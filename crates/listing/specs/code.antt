@@ -1,3 +1,2 @@
--- The lines one by one, and the text for an answer.
+-- The lines one by one.
 pub mod Lines
-pub mod Texts

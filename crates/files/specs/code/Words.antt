@@ -1,13 +1,7 @@
--- A byte as a part of a word, and one word of a file.
-use Prim.Native.Nat.{ℕ, _+_, _*_, _<_}
+-- One word of a file.
+use Prim.Native.Nat.{ℕ, _+_, _*_}
 use mathlib.Core.List.{List}
-use mathlib.Core.Path.{_≡_}
 use lib.ListN.{getD}
-
--- a byte, widened
-pub record Byte (x r : ℕ) : Type 0 where
-  pub value : r ≡ x
-  pub range : r < 256
 
 -- the word of the four bytes from i on, least byte first
 abbrev pub wordAt : List ℕ → ℕ → ℕ

@@ -3,7 +3,7 @@ use mathlib.Core.Path.{sym}
 use native.Mathlib.Omega.{arith}
 use borrow.Author.Needs.{needs}
 use lib.Seq.{length-take-le}
-use Rattle.decimal.proofs.Added.{kept, up-to}
+use Rattle.files.proofs.WordLaws.{filled-fits, filled-whole}
 use Rattle.listing.proofs.FileLaws.{too-long, ragged, whole, file-listed}
 use Rattle.listing.proofs.LineLaws.{refused-fits}
 use Rattle.listing.proofs.texts.list_file.Statement.{statement}
@@ -24,7 +24,7 @@ returns-2 c =
 slice-aggregate-list-words : tie.Need-slice-aggregate-list-words
 slice-aggregate-list-words c =
     let w = c .before .before .words-of in
-    sym (length-take-le (w .result) (w .last .1 .0) (omega (arith, w .ensures .fits, kept (w .ensures))))
+    sym (length-take-le (w .result) (w .last .1 .0) (filled-fits (w .ensures)))
 
 returns-3 : tie.Need-returns-3
 returns-3 c =
@@ -32,7 +32,7 @@ returns-3 c =
     let t = w .before .before in
     let s = t .before .before .before .args in
     file-listed _ _ _
-    (rw (whole (s .p) (s .limit) (s .bytes .now) (t .before .if1 .left) (t .if2 .left), ← up-to (w .words-of .ensures)) (c .list-words .ensures))
+    (rw (whole (s .p) (s .limit) (s .bytes .now) (t .before .if1 .left) (t .if2 .left), ← filled-whole (w .words-of .ensures) (omega arith)) (c .list-words .ensures))
 
 pub list-file-spec : {M : Type 1} → statement M
 list-file-spec =
@@ -44,7 +44,7 @@ list-file-spec =
     returns-2
     (λ c. search needs)
     (λ c κs. search needs)
-    (λ c. search needs)
+    (λ c. omega (arith, filled-fits (c .before .words-of .ensures)))
     slice-aggregate-list-words
     (λ c κs. search needs)
     returns-3)

@@ -1,6 +1,6 @@
 -- `listing::texts::put_table` meets its contract: with ten digits at most for a number, the longest table fits.
 use native.Mathlib.Omega.{arith}
-use Rattle.listing.specs.code.Texts.{tableLines}
+use Rattle.listing.specs.code.Lines.{tableLines}
 use Rattle.table.specs.Pairs.{paired}
 use Rattle.decimal.proofs.Added.{both, kept}
 use Rattle.listing.proofs.LineLaws.{head-fits, head-end, lines-few, paired-length}
