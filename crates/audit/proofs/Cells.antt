@@ -11,7 +11,7 @@ use lib.Seq.{take-length, length-take-le, getD-take, getD-drop}
 use Rattle.table.specs.Answers.{firstOf}
 use Rattle.table.proofs.First.{first-is, first-ext}
 use Rattle.audit.specs.Check.{codesIn}
-use Rattle.audit.specs.code.Blocks.{misplacedFrom, Codes, Tested}
+use Rattle.audit.specs.code.Blocks.{misplacedFrom, BelowPrime, Tested}
 use Rattle.audit.specs.declared.blocks.TableHash.{TableHash}
 use Rattle.audit.specs.declared.blocks.BlockHash.{BlockHash}
 use Rattle.audit.specs.declared.blocks.BlockTest.{BlockTest}
@@ -26,7 +26,7 @@ module _ (part : List ℕ) (a e : ℕ) (l : a ≤ e) (m : e ≤ length part) whe
   cells-at : (t : ℕ) → t < e - a → getD (take (e - a) (drop a part)) t 0 ≡ getD part (a + t) 0
   cells-at t lt = getD-take (e - a) (drop a part) t 0 lt ∙ getD-drop a part t 0
 
-  pub cells-codes : (h : TableHash) → Codes h part → Codes h (take (e - a) (drop a part))
+  pub cells-codes : (h : TableHash) → BelowPrime h part → BelowPrime h (take (e - a) (drop a part))
   cells-codes h c =
       record {
         each = λ t lt.
@@ -40,7 +40,7 @@ module _ (part : List ℕ) (a e : ℕ) (l : a ≤ e) (m : e ≤ length part) whe
   unfolding misplacedFrom
   cells-test h b t lt = rw (cells-at t lt, zero-add (a + t)) refl
 
-pub front-codes : (h : TableHash) (part : List ℕ) (e : ℕ) → e ≤ length part → Codes h part → Codes h (take e part)
+pub front-codes : (h : TableHash) (part : List ℕ) (e : ℕ) → e ≤ length part → BelowPrime h part → BelowPrime h (take e part)
 front-codes h part e m c =
     record {
       each = λ t lt.

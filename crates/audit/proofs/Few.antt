@@ -11,7 +11,7 @@ use Rattle.hash.specs.Hash.{hashOf}
 use Rattle.hash.proofs.Counting.{hash-lt}
 use Rattle.table.specs.Answers.{firstOf}
 use Rattle.audit.specs.Check.{codesIn}
-use Rattle.audit.specs.code.Blocks.{elsewhere, notOwn, misplacedFrom, orZero, TableHashed, Codes}
+use Rattle.audit.specs.code.Blocks.{elsewhere, notOwn, misplacedFrom, orZero, TableHashed, BelowPrime}
 use Rattle.audit.specs.declared.blocks.TableHash.{TableHash}
 use Rattle.audit.specs.declared.blocks.BlockHash.{BlockHash}
 
@@ -23,7 +23,7 @@ pub few-is : (part word : List ℕ) → word ≡ 0 ∷ [] → getD (orZero part 
 few-is [] word e = ap (λ (l : List ℕ). getD l 0 0) e
 few-is (a ∷ part) word e = rw (ne-eqb (length (a ∷ part)) 0 (omega arith)) refl
 
-pub few-below : (h : TableHash) (part : List ℕ) → TableHashed h → Codes h part → getD part 0 0 < h .prime
+pub few-below : (h : TableHash) (part : List ℕ) → TableHashed h → BelowPrime h part → getD part 0 0 < h .prime
 few-below h [] t c = omega (arith, t .below)
 few-below h (a ∷ part) t c = c .each 0 (omega arith)
 

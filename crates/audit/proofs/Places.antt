@@ -30,22 +30,22 @@ places-code part t ne = rw (ne-eqb (getD part t 0) 0 ne) refl
 -- ---- listing them
 
 -- before place t: the places below it that hold a code are listed and counted
-pub record Listing (part old list : List ℕ) (count t : ℕ) : Type 0 where
+pub record ListedBelow (part old list : List ℕ) (count t : ℕ) : Type 0 where
   pub upto : t ≤ length part
   pub long : length list ≡ length old
   pub within : count ≤ t
   pub counted : count + codesIn (drop t part) ≡ codesIn part
   pub places : take count list ≡ codePlaces part t
 
-pub listing-none : (part list : List ℕ) → Listing part list list 0 0
+pub listed-none : (part list : List ℕ) → ListedBelow part list list 0 0
 unfolding codePlaces
-listing-none part list = record { upto = omega arith; long = refl; within = omega arith; counted = omega arith; places = refl }
+listed-none part list = record { upto = omega arith; long = refl; within = omega arith; counted = omega arith; places = refl }
 
 -- place t is written in any case, and counted where it holds a code
-pub listing-next :
-    (part old list : List ℕ) (count t : ℕ) → t < length part → t < length list → Listing part old list count t
-    → Listing part old (set list count t) (count + cond (eqb (getD part t 0) 0) 0 1) (t + 1)
-listing-next part old list count t l m before =
+pub listed-next :
+    (part old list : List ℕ) (count t : ℕ) → t < length part → t < length list → ListedBelow part old list count t
+    → ListedBelow part old (set list count t) (count + cond (eqb (getD part t 0) 0) 0 1) (t + 1)
+listed-next part old list count t l m before =
     elim (ℕ-discrete (getD part t 0) 0) [
       | yes e ↦
           rw (eq-eqb (getD part t 0) 0 e, add-zero count)
@@ -76,9 +76,9 @@ listing-next part old list count t l m before =
           })
     ]
 
-pub listing-all :
-    (part old list : List ℕ) (count t : ℕ) → length part ≤ t → Listing part old list count t → PlacesListed part old count list
-listing-all part old list count t ge all =
+pub listed-all :
+    (part old list : List ℕ) (count t : ℕ) → length part ≤ t → ListedBelow part old list count t → PlacesListed part old count list
+listed-all part old list count t ge all =
     record {
       long = all .long;
       within = omega (arith, all .within, all .upto);
@@ -130,15 +130,15 @@ none-below part (suc x) z u l =
 
 module _ (h : TableHash) (b : BlockHash) (from : ℕ) (part list : List ℕ) where
   -- before the turn at i: the listed places from i on are tried; those before them are the places below x
-  pub record Placing (first i : ℕ) : Type 0 where
+  pub record TriedFrom (first i : ℕ) : Type 0 where
     pub x : ℕ
     pub upto : x ≤ length part
     pub within : i ≤ length list
     pub listed : take i list ≡ codePlaces part x
     pub found : FirstFrom x (length part) (misplacedFrom h b from part) first
 
-  pub placing-none : list ≡ codePlaces part (length part) → Placing (length part) (length list)
-  placing-none e =
+  pub tried-none : list ≡ codePlaces part (length part) → TriedFrom (length part) (length list)
+  tried-none e =
       record {
         x = length part;
         upto = omega arith;
@@ -148,7 +148,7 @@ module _ (h : TableHash) (b : BlockHash) (from : ℕ) (part list : List ℕ) whe
       }
 
   -- the last of i places that are left
-  module _ {first i : ℕ} (left : 0 < i) (before : Placing first i) where
+  module _ {first i : ℕ} (left : 0 < i) (before : TriedFrom first i) where
     last-of : Last part (before .x)
     last-of = last-place part (before .x) (omega (arith, ap length (before .listed), length-take-le i list (before .within)))
 
@@ -172,9 +172,9 @@ module _ (h : TableHash) (b : BlockHash) (from : ℕ) (part list : List ℕ) whe
     pub place-lt : getD list (i - 1) 0 < length part
     place-lt = omega (arith, place-is, last-of .below, before .upto)
 
-    pub placing-next : Placing (cond (notOwn h b (from + getD list (i - 1) 0) (getD part (getD list (i - 1) 0) 0)) (getD list (i - 1) 0) first) (i - 1)
+    pub tried-next : TriedFrom (cond (notOwn h b (from + getD list (i - 1) 0) (getD part (getD list (i - 1) 0) 0)) (getD list (i - 1) 0) first) (i - 1)
     unfolding misplacedFrom
-    placing-next =
+    tried-next =
         let t : ℕ = last-of .t in
         let test : ℕ → Bool = misplacedFrom h b from part in
         let l : t < length part = omega (arith, last-of .below, before .upto) in
@@ -195,9 +195,9 @@ module _ (h : TableHash) (b : BlockHash) (from : ℕ) (part list : List ℕ) whe
               (before .found));
         })
 
-  pub placing-all : {first i : ℕ} → i ≤ 0 → Placing first i → first ≡ firstOf (length part) (misplacedFrom h b from part)
+  pub tried-all : {first i : ℕ} → i ≤ 0 → TriedFrom first i → first ≡ firstOf (length part) (misplacedFrom h b from part)
   unfolding misplacedFrom
-  placing-all {i = i} none all =
+  tried-all {i = i} none all =
       let z : length (codePlaces part (all .x)) ≡ 0 = omega (arith, ap length (all .listed), length-take-le i list (all .within)) in
       from-all
       (from-pass 0 (all .x) (omega arith) (λ u a m. rw (eq-eqb (getD part u 0) 0 (none-below part (all .x) z u m)) refl) (all .found))

@@ -9,7 +9,7 @@ ghost use lib.ListN.{length};
 ghost use Rattle.hash.specs.Hash.{hashOf};
 ghost use Rattle.table.specs.Answers.{firstOf};
 ghost use Rattle.table.specs.code.Sized.{Within};
-ghost use Rattle.audit.specs.code.Blocks.{elsewhere, notOwn, misplacedFrom, codePlaces, orZero, TableHashed, BlockHashed, Codes, PlacesListed, Tested};
+ghost use Rattle.audit.specs.code.Blocks.{elsewhere, notOwn, misplacedFrom, codePlaces, orZero, TableHashed, BlockHashed, BelowPrime, PlacesListed, Tested};
 use table::numbers::held;
 use table::numbers::wide;
 
@@ -80,7 +80,7 @@ fn not_own(h: TableHash, b: BlockHash, t: usize, a: u32) -> bool
 
 // A block of at most one cell, where the place of every code is 0.
 fn test_few<'a>(h: TableHash, b: BlockHash, part: &'a [u32], zero: &'a [u32]) -> BlockTest
-    requires { ⌜ TableHashed h × (Codes h (now part) × ((length (now part) ≡ b .cells) × (b .cells < 2))) ⌝ }
+    requires { ⌜ TableHashed h × (BelowPrime h (now part) × ((length (now part) ≡ b .cells) × (b .cells < 2))) ⌝ }
     requires { ⌜ now zero ≡ 0 ∷ [] ⌝ }
     ensures { λ r. ⌜ Tested h b 0 (now (part .entry)) r ⌝ }
 {
@@ -111,7 +111,7 @@ fn list_codes(part: &[u32], list: &mut [u16]) -> usize
 
 // The first of the listed places that is not its code's own. The part begins at cell `from` of the block.
 fn first_listed(h: TableHash, b: BlockHash, from: usize, part: &[u32], list: &[u16]) -> usize
-    requires { ⌜ TableHashed h × (BlockHashed h b × Codes h (now part)) ⌝ }
+    requires { ⌜ TableHashed h × (BlockHashed h b × BelowPrime h (now part)) ⌝ }
     requires { ⌜ (now list ≡ codePlaces (now part) (length (now part))) × (from + length (now part) < 4294967296) ⌝ }
     ensures { λ r. ⌜ r ≡ firstOf (length (now (part .entry))) (misplacedFrom h b from (now (part .entry))) ⌝ }
 {
@@ -128,7 +128,7 @@ fn first_listed(h: TableHash, b: BlockHash, from: usize, part: &[u32], list: &[u
 
 // Counts and places the codes of some cells of a block. Only the codes are placed: most cells of a block are empty.
 fn test_cells(h: TableHash, b: BlockHash, from: usize, part: &[u32], list: &mut [u16]) -> BlockTest
-    requires { ⌜ TableHashed h × (BlockHashed h b × Codes h (now part)) ⌝ }
+    requires { ⌜ TableHashed h × (BlockHashed h b × BelowPrime h (now part)) ⌝ }
     requires { ⌜ (length (now part) ≤ length (now list)) × (from + length (now part) < 4294967296) ⌝ }
     requires { ⌜ length (now list) < 65536 ⌝ }
     ensures { λ r. ⌜ Tested h b from (now (part .entry)) r × (length (now (list .exit)) ≡ length (now (list .entry))) ⌝ }
@@ -140,7 +140,7 @@ fn test_cells(h: TableHash, b: BlockHash, from: usize, part: &[u32], list: &mut 
 
 // A block of any cells, from its last cells to its first, as many at a time as can be listed.
 fn test_many(h: TableHash, b: BlockHash, part: &[u32], list: &mut [u16]) -> BlockTest
-    requires { ⌜ TableHashed h × (BlockHashed h b × Codes h (now part)) ⌝ }
+    requires { ⌜ TableHashed h × (BlockHashed h b × BelowPrime h (now part)) ⌝ }
     requires { ⌜ (length (now part) < 4294967296) × ((0 < length (now list)) × (length (now list) < 65536)) ⌝ }
     ensures { λ r. ⌜ Tested h b 0 (now (part .entry)) r × (length (now (list .exit)) ≡ length (now (list .entry))) ⌝ }
 {
@@ -169,7 +169,7 @@ pub fn test_block<'a>(
     list: &mut [u16],
     zero: &'a [u32],
 ) -> BlockTest
-    requires { ⌜ TableHashed h × ((b .multiplier < h .prime) × (Codes h (now part) × (length (now part) ≡ b .cells))) ⌝ }
+    requires { ⌜ TableHashed h × ((b .multiplier < h .prime) × (BelowPrime h (now part) × (length (now part) ≡ b .cells))) ⌝ }
     requires { ⌜ (length (now part) < 4294967296) × ((0 < length (now list)) × (length (now list) < 65536)) ⌝ }
     requires { ⌜ now zero ≡ 0 ∷ [] ⌝ }
     ensures { λ r. ⌜ Tested h b 0 (now (part .entry)) r × (length (now (list .exit)) ≡ length (now (list .entry))) ⌝ }

@@ -109,7 +109,7 @@ fn survey_blocks(h: TableHash, words: &[u32]) -> Survey
 {
     let n = wide(words[0]);
     let c = wide(words[1]);
-    let mut list = [0u16; 64];
+    let mut list = [0u16; 81];
     let mut first = c;
     let mut square = n;
     let mut codes: usize = 0;

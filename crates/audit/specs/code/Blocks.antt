@@ -51,7 +51,7 @@ pub record BlockHashed (h : TableHash) (b : BlockHash) : Type 0 where
   pub positive : 0 < b .cells
 
 -- every cell holds a number below the prime
-pub record Codes (h : TableHash) (part : List ℕ) : Type 0 where
+pub record BelowPrime (h : TableHash) (part : List ℕ) : Type 0 where
   pub each : (t : ℕ) → t < length part → getD part t 0 < h .prime
 
 -- all places that hold a code are listed

@@ -1,16 +1,16 @@
--- `audit::blocks::first_listed` meets its contract. The loop's invariant: the listed places from i on are tried (`Placing`). The measure is i.
+-- `audit::blocks::first_listed` meets its contract. The loop's invariant: the listed places from i on are tried (`TriedFrom`). The measure is i.
 use Prim.Native.Nat.{ℕ, _+_, _-_, _<_}
 use mathlib.Core.Path.{_≡_, subst, sym, ap, _∙_}
 use native.Mathlib.Omega.{arith}
 use native.Mathlib.Nat.{le-antisymm}
 use borrow.Author.Needs.{needs}
 use lib.ListN.{length, getD}
-use Rattle.audit.proofs.Places.{Placing, placing-none, placing-next, placing-all, place-lt}
+use Rattle.audit.proofs.Places.{TriedFrom, tried-none, tried-next, tried-all, place-lt}
 use Rattle.audit.proofs.blocks.first_listed.Statement.{statement}
 use Rattle.audit.proofs.blocks.first_listed.Tie as tie
 
 abbrev Inv-loop : tie.InvT-loop
-Inv-loop h b from part list first₀ i₀ first i = Placing h b from part list first i
+Inv-loop h b from part list first₀ i₀ first i = TriedFrom h b from part list first i
 
 abbrev μ-loop : tie.MeasureT-loop
 μ-loop h b from part list first₀ i₀ first i = i
@@ -33,7 +33,7 @@ loop-again : tie.Need-loop-again Inv-loop μ-loop
 loop-again c =
     let l = c .before .before .before .before .before in
     rw (c .select .ensures, c .before .not-own .ensures, c .before .before .before .listed .ensures .value)
-    (placing-next _ _ _ _ _ (l .loop-test .taken) (l .before .loop .inv))
+    (tried-next _ _ _ _ _ (l .loop-test .taken) (l .before .loop .inv))
 
 pub first-listed-spec : {M : Type 1} → statement M
 first-listed-spec =
@@ -41,7 +41,7 @@ first-listed-spec =
     (tie.spec
     Inv-loop
     μ-loop
-    (λ c. placing-none _ _ _ _ _ (c .before .before .pre .1 .0))
+    (λ c. tried-none _ _ _ _ _ (c .before .before .pre .1 .0))
     (λ c. search needs)
     (λ c. omega arith)
     (λ c. omega (arith, c .before .before .loop .inv .within))
@@ -53,4 +53,4 @@ first-listed-spec =
     (λ c κs. search needs)
     (λ c. omega arith)
     loop-again
-    (λ c. placing-all _ _ _ _ _ (c .loop-test .left) (c .before .loop .inv)))
+    (λ c. tried-all _ _ _ _ _ (c .loop-test .left) (c .before .loop .inv)))

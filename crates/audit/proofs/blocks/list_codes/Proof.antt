@@ -1,4 +1,4 @@
--- `audit::blocks::list_codes` meets its contract. The loop's invariant: the places below t that hold a code are listed (`Listing`). The measure is
+-- `audit::blocks::list_codes` meets its contract. The loop's invariant: the places below t that hold a code are listed (`ListedBelow`). The measure is
 -- what is left of the part.
 use Prim.Native.Nat.{_-_}
 use native.Mathlib.Omega.{arith}
@@ -6,12 +6,12 @@ use borrow.Author.Needs.{needs}
 use lib.Dec.{eqb}
 use lib.ListN.{length, getD}
 use Rattle.audit.proofs.Counting.{one-at-most}
-use Rattle.audit.proofs.Places.{Listing, listing-none, listing-next, listing-all}
+use Rattle.audit.proofs.Places.{ListedBelow, listed-none, listed-next, listed-all}
 use Rattle.audit.proofs.blocks.list_codes.Statement.{statement}
 use Rattle.audit.proofs.blocks.list_codes.Tie as tie
 
 abbrev Inv-loop : tie.InvT-loop
-Inv-loop part list₀ count₀ t₀ list count t = Listing part list₀ list count t
+Inv-loop part list₀ count₀ t₀ list count t = ListedBelow part list₀ list count t
 
 abbrev μ-loop : tie.MeasureT-loop
 μ-loop part list₀ count₀ t₀ list count t = length part - t
@@ -25,7 +25,7 @@ add-count c =
 loop-again : tie.Need-loop-again Inv-loop μ-loop
 loop-again c =
     let l = c .before .before .before .loop in
-    rw (c .held .ensures) (listing-next _ _ _ _ (l .t) (omega arith) (omega (arith, l .inv .long)) (l .inv))
+    rw (c .held .ensures) (listed-next _ _ _ _ (l .t) (omega arith) (omega (arith, l .inv .long)) (l .inv))
 
 pub list-codes-spec : {M : Type 1} → statement M
 list-codes-spec =
@@ -33,7 +33,7 @@ list-codes-spec =
     (tie.spec
     Inv-loop
     μ-loop
-    (λ c. listing-none _ _)
+    (λ c. listed-none _ _)
     (λ c. omega arith)
     (λ c. omega (arith, c .before .loop .inv .within))
     (λ c. omega (arith, c .before .loop .inv .within, c .before .loop .inv .long))
@@ -45,4 +45,4 @@ list-codes-spec =
     (λ c. omega arith)
     loop-again
     (λ c. c .before .loop .inv .long)
-    (λ c. listing-all _ _ _ _ _ (omega arith) (c .before .loop .inv)))
+    (λ c. listed-all _ _ _ _ _ (omega arith) (c .before .loop .inv)))

@@ -6,7 +6,7 @@ use mathlib.Core.Path.{_≡_, refl, sym, ap, _∙_}
 use native.Mathlib.Omega.{arith}
 use borrow.Author.Needs.{needs}
 use lib.Dec.{eqb, ltb}
-use lib.ListN.{length}
+use lib.ListN.{length, length-replicate}
 use Rattle.hash.proofs.Words.{product-lt}
 use Rattle.table.specs.Words.{codeCount, cellCount, blockStart, blockEnd}
 use Rattle.audit.specs.declared.blocks.BlockTest.{BlockTest}
@@ -17,7 +17,7 @@ use Rattle.audit.proofs.check.survey_blocks.Statement.{statement}
 use Rattle.audit.proofs.check.survey_blocks.Tie as tie
 
 record Inv (p : ℕ) (words list : List ℕ) (first square codes end j : ℕ) : Type 0 where
-  long : length list ≡ 64
+  long : length list ≡ 81
   end-at : end ≡ edge words j
   surveyed : SurveyedFrom p words first square codes j
 
@@ -32,7 +32,7 @@ loop-holds c =
     let s = c .before .before .before .before .before in
     rw (c .before .before .wide .ensures .value, c .wide2 .ensures .value)
     (record {
-      long = refl;
+      long = length-replicate {A = ℕ} 81 0;
       end-at = sym (edge-last (s .args .words .now) (s .pre .0 .starts));
       surveyed = surveyed-none (s .args .h .prime) (s .args .words .now) (s .pre .0 .starts) (s .pre .0 .sized .whole);
     })

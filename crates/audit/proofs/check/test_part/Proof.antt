@@ -7,7 +7,7 @@ use borrow.Author.Needs.{needs}
 use lib.ListN.{length, take, drop}
 use Rattle.table.specs.Words.{codeCount, cellCount, total, blockStart, blockEnd}
 use Rattle.audit.specs.Check.{blockCodes}
-use Rattle.audit.specs.code.Blocks.{Codes, ExtentOf}
+use Rattle.audit.specs.code.Blocks.{BelowPrime, ExtentOf}
 use Rattle.audit.specs.declared.blocks.BlockHash.{BlockHash}
 use Rattle.audit.specs.declared.check.Extent.{Extent}
 use Rattle.audit.proofs.Bounds.{cells-le}
@@ -78,7 +78,7 @@ test-block-requires c κs =
     let codes = part-codes (words (s c)) (r .starts) (whole (s c)) (x c .number) (at c .below) (s c .args .h) (r .codes) in (
       (
         s c .pre .0 .1 .0 .hashed,
-        (multiplier-below c, (subst (Codes (s c .args .h)) (sym (part c)) codes, ap length (part c) ∙ long c)),
+        (multiplier-below c, (subst (BelowPrime (s c .args .h)) (sym (part c)) codes, ap length (part c) ∙ long c)),
       ),
       (
         (omega (arith, ap length (part c), long c, within (s c), few (s c)), s c .pre .1),
