@@ -35,7 +35,7 @@ pub struct BlockTest {
     pub codes: usize,
 }
 
-pub fn select(holds: bool, yes: usize, no: usize) -> usize
+pub(crate) fn select(holds: bool, yes: usize, no: usize) -> usize
     ensures { λ r. ⌜ r ≡ cond holds yes no ⌝ }
 {
     if holds {
@@ -162,7 +162,7 @@ fn test_many(h: TableHash, b: BlockHash, part: &[u32], list: &mut [u16]) -> Bloc
 }
 
 // Counts and places the codes of a block. The list is a scratch buffer; `zero` is one word, 0.
-pub fn test_block<'a>(
+pub(crate) fn test_block<'a>(
     h: TableHash,
     b: BlockHash,
     part: &'a [u32],
