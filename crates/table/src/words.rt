@@ -94,7 +94,7 @@ pub fn block_start(words: &[u32], j: usize) -> u32
 }
 
 // Where block j ends: where the next one starts, the last at c.
-pub fn block_end(words: &[u32], j: usize) -> u32
+pub(crate) fn block_end(words: &[u32], j: usize) -> u32
     requires { ⌜ Block (now words) j ⌝ }
     ensures { λ r. ⌜ r ≡ blockEnd (now (words .entry)) j ⌝ }
 {
@@ -129,7 +129,7 @@ pub fn cell_schedule(words: &[u32], i: usize) -> u32
 }
 
 // The block that a code belongs to.
-pub fn block_of(p: u32, words: &[u32], code: u32) -> usize
+pub(crate) fn block_of(p: u32, words: &[u32], code: u32) -> usize
     requires { ⌜ (1 ≤ p) × ((3 ≤ length (now words)) × (0 < codeCount (now words))) ⌝ }
     ensures { λ r. ⌜ Within (blockOf p (now (words .entry)) code) (codeCount (now (words .entry))) r ⌝ }
 {
