@@ -15,7 +15,7 @@ use Rattle.table.specs.code.Sized.{hasBlocks}
 use Rattle.table.specs.Lookup.{lookupOf}
 use Rattle.panel.specs.Panel.{walkOf}
 use Rattle.table.specs.Found.{foundOf}
-use Rattle.panel.specs.Fired.{endedOf}
+use Rattle.panel.specs.code.Ended.{endedOf}
 use Rattle.table.specs.declared.lookup.Found.{Found}
 use Rattle.table.specs.declared.lookup.Found.the-variants.{Schedule, Absent, CodeOutOfRange, TooFewWords, BadSizes, BadBlock}
 use Rattle.table.proofs.lookup.Found.{the-type}

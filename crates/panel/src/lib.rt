@@ -5,10 +5,11 @@ ghost use lib.ListN.{length};
 ghost use Rattle.hash.specs.code.Contract.{Ready};
 ghost use Rattle.table.specs.Words.{codeCount};
 ghost use Rattle.table.specs.Lookup.{lookupOf};
-ghost use Rattle.table.specs.code.Sized.{Blocks};
+ghost use Rattle.table.specs.code.Sized.{WithBlocks};
 ghost use Rattle.panel.specs.Panel.{walkOf, panelOf};
 ghost use Rattle.table.specs.Found.{foundOf};
-ghost use Rattle.panel.specs.Fired.{firedOf, endedOf};
+ghost use Rattle.panel.specs.Fired.{firedOf};
+ghost use Rattle.panel.specs.code.Ended.{endedOf};
 ghost use Rattle.table.specs.Limits.{mostPairs};
 
 pub mod numbered;
@@ -51,9 +52,9 @@ fn ended(f: Found, i: u32) -> Fired
     }
 }
 
-// The answer for one code of a panel: the sizes are tested before, and the number of blocks is ready as a divisor.
+// The answer for one code of a panel: the sizes are tested before, and the reciprocal of the number of blocks is precomputed.
 fn lookup_in(p: u32, limit: u32, words: &[u32], reciprocal: u64, code: u32) -> Found
-    requires { ⌜ (1 ≤ p) × (Blocks p limit (now words) × Ready p (codeCount (now words)) reciprocal) ⌝ }
+    requires { ⌜ (1 ≤ p) × (WithBlocks p limit (now words) × Ready p (codeCount (now words)) reciprocal) ⌝ }
     ensures { λ r. ⌜ foundOf r ≡ lookupOf p limit (now (words .entry)) code ⌝ }
 {
     if outside(1, p - 1, code) {
@@ -65,7 +66,7 @@ fn lookup_in(p: u32, limit: u32, words: &[u32], reciprocal: u64, code: u32) -> F
 
 // The codes looked up in their order: the first one absent or refused ends it, otherwise the largest schedule found.
 fn walk(p: u32, limit: u32, words: &[u32], codes: &[u32]) -> Fired
-    requires { ⌜ (1 ≤ p) × (Blocks p limit (now words) × (length (now codes) ≤ 64)) ⌝ }
+    requires { ⌜ (1 ≤ p) × (WithBlocks p limit (now words) × (length (now codes) ≤ 64)) ⌝ }
     ensures { λ r. ⌜ firedOf r ≡ walkOf p limit (now (words .entry)) (now (codes .entry)) 0 0 ⌝ }
 {
     let reciprocal = hash::reciprocal(p, words[0]);

@@ -1,4 +1,4 @@
-// The answers of a panel, for C.
+// The number and the value of each answer of a panel.
 ghost use Rattle.panel.specs.Fired.{firedOf};
 ghost use Rattle.table.specs.Numbers.{Shown};
 use crate::Fired;

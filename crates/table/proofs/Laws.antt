@@ -8,7 +8,7 @@ use borrow.Author.Tests.{le-ltb, lt-ltb, le-leb, lt-leb, eq-eqb, ne-eqb, ltb-fal
 use Rattle.table.specs.Answers.{outside}
 use Rattle.table.specs.Words.{codeCount, multiplier}
 use Rattle.table.specs.Lookup.{tooManyCodes, tooManyCells, badMultiplier, tooShort, badSizes}
-use Rattle.table.specs.code.Sized.{Sized, Blocks, hasBlocks}
+use Rattle.table.specs.code.Sized.{Sized, WithBlocks, hasBlocks}
 
 -- each test of a definition, from the fact that decides it
 pub ruleset tests = (le-ltb, lt-ltb, le-leb, lt-leb, eq-eqb, ne-eqb)
@@ -49,7 +49,7 @@ kept : (b x : Bool) → cond b false x ≡ true → (b ≡ false) × (x ≡ true
 kept true x e = absurd (true≢false (sym e))
 kept false x e = (refl, e)
 
-pub has-blocks : {p limit : ℕ} {words : List ℕ} → hasBlocks p limit words ≡ true → Blocks p limit words
+pub has-blocks : {p limit : ℕ} {words : List ℕ} → hasBlocks p limit words ≡ true → WithBlocks p limit words
 unfolding hasBlocks
 has-blocks {p} {limit} {words} e =
     let three = kept _ _ e in

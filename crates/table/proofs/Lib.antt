@@ -14,6 +14,6 @@ pub mod Chosen
 pub mod Own
 pub mod Contents
 pub mod Order
--- Codes among others, and the cell that a lookup in one word reads.
+-- Codes among others, and the cell that a branch-free lookup reads.
 pub mod Among
 pub mod Probing

@@ -13,29 +13,29 @@ use Rattle.hash.specs.Hash.{hashOf}
 use Rattle.table.specs.Answers.{Answer, given, absent, refuse, outside}
 use Rattle.table.specs.Words.{codeCount, cellCount, blockStart, blockEnd, blockMultiplier, cellIn}
 use Rattle.table.specs.Lookup.{inCell, inBlock}
-use Rattle.table.specs.code.OneWord.{unpacked, cellAnswer, cellAt}
+use Rattle.table.specs.code.OneWord.{wordAnswer, cellAnswer, cellAt}
 use Rattle.table.proofs.Steps.{block-none, block-cell}
 
 -- a schedule in the upper half
-pub unpacked-given : (s : ℕ) → unpacked (s * 4294967296) ≡ given (s ∷ [])
-unfolding unpacked
-unpacked-given s = rw (mul-mod-left s 4294967296, mul-div-cancel s {n = 4294967296} (omega arith))
+pub wordAnswer-given : (s : ℕ) → wordAnswer (s * 4294967296) ≡ given (s ∷ [])
+unfolding wordAnswer
+wordAnswer-given s = rw (mul-mod-left s 4294967296, mul-div-cancel s {n = 4294967296} (omega arith))
 
 -- no cells, or another code: absent; a schedule out of range: 34
 pub picked :
     (none same bad : Bool) (s : ℕ)
-    → unpacked (cond none 1000 (cond same (cond bad 34 (s * 4294967296)) 1000)) ≡ cond none absent (cond same (refuse bad 34 0 (given (s ∷ []))) absent)
-unfolding unpacked
+    → wordAnswer (cond none 1000 (cond same (cond bad 34 (s * 4294967296)) 1000)) ≡ cond none absent (cond same (refuse bad 34 0 (given (s ∷ []))) absent)
+unfolding wordAnswer
 picked true same bad s = refl
 picked false true true s = refl
-picked false true false s = unpacked-given s
+picked false true false s = wordAnswer-given s
 picked false false bad s = refl
 
 module _ (p : ℕ) (words : List ℕ) (code j : ℕ) (rises : blockStart words j ≤ blockEnd words j) (within : blockEnd words j ≤ cellCount words)
     (range : outside 1 (p - 1) (blockMultiplier words j) ≡ true) where
   -- a q out of range is refused only where the block has cells
-  pub unread : unpacked (cond (eqb (blockStart words j) (blockEnd words j)) 1000 34) ≡ inBlock p words code j
-  unfolding unpacked
+  pub unread : wordAnswer (cond (eqb (blockStart words j) (blockEnd words j)) 1000 34) ≡ inBlock p words code j
+  unfolding wordAnswer
   unread =
       elim (eq-or-lt-of-le rises) [
         | inl none ↦ rw (eq-eqb _ _ none) (sym (block-none p words code j rises within none))

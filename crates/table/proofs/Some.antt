@@ -1,4 +1,4 @@
--- Whether a test holds of some number below n. A loop that only tells that keeps `some i test`, and needs no branch.
+-- Whether a test holds of some number below n. A loop that only tells that keeps `some i test`, and is branch-free.
 use Prim.Native.Nat.{ℕ, suc, _+_, _≤_}
 use mathlib.Core.Bool.{Bool, false, _||_}
 use mathlib.Core.Logic.{⊎-elim}

@@ -1,4 +1,4 @@
--- What C sees of an answer: a number and a value (include/glass.h).
+-- An answer as a number and a value: what C sees of it (include/glass.h), and what a refusal's line in a listing shows.
 use Prim.Native.Nat.{ℕ, _-_}
 use mathlib.Core.List.{List}
 use mathlib.Core.Path.{_≡_}
@@ -6,21 +6,21 @@ use lib.ListN.{length, getD}
 use Rattle.table.specs.Answers.{Answer, given, absent, unknown, refused}
 use Rattle.table.specs.declared.answers.Numbered.{Numbered}
 
--- 0 for a result, 1000 for an absent or unknown code, otherwise the refusal's number
+-- 0 for a result, 1000 for an absent or unknown code, the refusal's number otherwise
 abbrev pub numberOf : Answer → ℕ
 numberOf (given values) = 0
 numberOf absent = 1000
 numberOf (unknown i) = 1000
 numberOf (refused number value) = number
 
--- the last value of a result (of an accepted table its total), the index of an unknown code, and what comes with a refusal
+-- the last value of a result (of an accepted table its total), 0 for an absent code, the index of an unknown one, what comes with a refusal
 abbrev pub valueOf : Answer → ℕ
 valueOf (given values) = getD values (length values - 1) 0
 valueOf absent = 0
 valueOf (unknown i) = i
 valueOf (refused number value) = value
 
--- r is what C sees of an answer
+-- r is the number and the value of an answer: the promise of every `numbered` function and of every C export
 pub record Shown (answer : Answer) (r : Numbered) : Type 0 where
   pub number-shown : r .number ≡ numberOf answer
   pub value-shown : r .value ≡ valueOf answer

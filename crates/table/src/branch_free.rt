@@ -1,6 +1,6 @@
-// Looking a code up into one word of 64 bits, for callers that take numbers: a schedule in the upper half, or a number in the lower. Whether
-// the code is there decides no branch, since on mixed codes every second one would be mispredicted: both words of a cell are read, and the
-// answer is picked.
+// A branch-free lookup, for callers that take numbers: its answer is one word of 64 bits, with a schedule in the upper half, or a number in
+// the lower. A branch on whether the code is there would be mispredicted for every second one of mixed codes. So both words of its cell
+// are read, and the answer is selected.
 ghost use Prim.Native.Nat.{_+_, _*_, _-_, _≤_};
 ghost use mathlib.Core.Bool.{cond};
 ghost use mathlib.Core.Path.{_≡_};
@@ -9,7 +9,7 @@ ghost use Rattle.table.specs.Words.{codeCount, cellCount};
 ghost use Rattle.table.specs.Lookup.{inBlock, lookupOf};
 ghost use Rattle.table.specs.code.Sized.{Block, Part, Within};
 ghost use Rattle.table.specs.Found.{foundOf};
-ghost use Rattle.table.specs.code.OneWord.{unpacked, cellAnswer, cellAt};
+ghost use Rattle.table.specs.code.OneWord.{wordAnswer, cellAnswer, cellAt};
 ghost use Rattle.table.specs.Limits.{mostPairs};
 use crate::limits::MOST_PAIRS;
 use crate::lookup::Found;
@@ -23,8 +23,9 @@ use crate::words::block_of;
 use crate::words::block_start;
 use crate::words::has_blocks;
 
+// The word of a lookup's answer.
 fn answer_word(f: Found) -> u64
-    ensures { λ r. ⌜ unpacked r ≡ foundOf f ⌝ }
+    ensures { λ r. ⌜ wordAnswer r ≡ foundOf f ⌝ }
 {
     match f {
         Found::Schedule(s) => (s as u64) * 4294967296,
@@ -36,7 +37,8 @@ fn answer_word(f: Found) -> u64
     }
 }
 
-fn pick(test: bool, yes: u64, no: u64) -> u64
+// One of two words.
+fn select(test: bool, yes: u64, no: u64) -> u64
     ensures { λ r. ⌜ r ≡ cond test yes no ⌝ }
 {
     if test {
@@ -47,17 +49,17 @@ fn pick(test: bool, yes: u64, no: u64) -> u64
 
 // The answer from a block of m cells, where the code's own cell has these words.
 fn cell_answer(m: u32, code: u32, stored: u32, schedule: u32) -> u64
-    ensures { λ r. ⌜ unpacked r ≡ cellAnswer m code stored schedule ⌝ }
+    ensures { λ r. ⌜ wordAnswer r ≡ cellAnswer m code stored schedule ⌝ }
 {
-    let found = pick(
+    let found = select(
         outside(1, 999, schedule),
         34,
         (schedule as u64) * 4294967296,
     );
-    pick(m == 0, 1000, pick(stored == code, found, 1000))
+    select(m == 0, 1000, select(stored == code, found, 1000))
 }
 
-// The word with the code of that cell; where there are no cells, some word.
+// The index of the word with that cell's code; 0 where there are no cells.
 fn cell_at(p: u32, n: u32, start: u32, m: u32, q: u32, code: u32) -> usize
     requires { ⌜ 1 ≤ p ⌝ }
     ensures { λ r. ⌜ Within (cellAt p n start m q code) (3 + 2 * n + (start + m)) r ⌝ }
@@ -72,7 +74,7 @@ fn cell_at(p: u32, n: u32, start: u32, m: u32, q: u32, code: u32) -> usize
 // The answer from the cells between start and end.
 fn probe(p: u32, words: &[u32], code: u32, start: u32, end: u32, q: u32) -> u64
     requires { ⌜ (1 ≤ p) × Part (now words) start end ⌝ }
-    ensures { λ r. ⌜ unpacked r ≡ cellAnswer (end - start) code (getD (now (words .entry)) (cellAt p (codeCount (now (words .entry))) start (end - start) q code) 0) (getD (now (words .entry)) (cellAt p (codeCount (now (words .entry))) start (end - start) q code + cellCount (now (words .entry))) 0) ⌝ }
+    ensures { λ r. ⌜ wordAnswer r ≡ cellAnswer (end - start) code (getD (now (words .entry)) (cellAt p (codeCount (now (words .entry))) start (end - start) q code) 0) (getD (now (words .entry)) (cellAt p (codeCount (now (words .entry))) start (end - start) q code + cellCount (now (words .entry))) 0) ⌝ }
 {
     let m = end - start;
     let at = cell_at(p, words[0], start, m, q, code);
@@ -82,7 +84,7 @@ fn probe(p: u32, words: &[u32], code: u32, start: u32, end: u32, q: u32) -> u64
 // The answer from block j, the code's own.
 fn block_answer(p: u32, words: &[u32], code: u32, j: usize) -> u64
     requires { ⌜ (1 ≤ p) × Block (now words) j ⌝ }
-    ensures { λ r. ⌜ unpacked r ≡ inBlock p (now (words .entry)) code j ⌝ }
+    ensures { λ r. ⌜ wordAnswer r ≡ inBlock p (now (words .entry)) code j ⌝ }
 {
     let start = block_start(words, j);
     let end = block_end(words, j);
@@ -94,15 +96,15 @@ fn block_answer(p: u32, words: &[u32], code: u32, j: usize) -> u64
         return 34;
     }
     if outside(1, p - 1, q) {
-        return pick(start == end, 1000, 34);
+        return select(start == end, 1000, 34);
     }
     probe(p, words, code, start, end, q)
 }
 
-// The answer for any words, with the prime and the limit on the codes of a table. Words without blocks go the plain way.
+// The answer for any words, with the prime and the limit on the codes of a table. Words without blocks go by the lookup with branches.
 fn lookup_word_for(p: u32, limit: u32, words: &[u32], code: u32) -> u64
     requires { ⌜ 1 ≤ p ⌝ }
-    ensures { λ r. ⌜ unpacked r ≡ lookupOf p limit (now (words .entry)) code ⌝ }
+    ensures { λ r. ⌜ wordAnswer r ≡ lookupOf p limit (now (words .entry)) code ⌝ }
 {
     if outside(1, p - 1, code) {
         return 31;
@@ -115,7 +117,7 @@ fn lookup_word_for(p: u32, limit: u32, words: &[u32], code: u32) -> u64
 
 // What `lookup` answers, in one word.
 pub fn lookup_word(words: &[u32], code: u32) -> u64
-    ensures { λ r. ⌜ unpacked r ≡ lookupOf 65537 mostPairs (now (words .entry)) code ⌝ }
+    ensures { λ r. ⌜ wordAnswer r ≡ lookupOf 65537 mostPairs (now (words .entry)) code ⌝ }
 {
     lookup_word_for(65537, MOST_PAIRS, words, code)
 }

@@ -29,7 +29,7 @@ pub fn outside(low: u32, high: u32, x: u32) -> bool
     x < low || high < x
 }
 
-// 1 for true: a test that is added in place of a branch.
+// 1 for true, 0 for false: a test as a number, for branch-free sums.
 pub fn one(test: bool) -> u32
     ensures { λ r. ⌜ (r ≡ cond test 1 0) × (r ≤ 1) ⌝ }
 {

@@ -1,4 +1,4 @@
--- A lookup's answer in one word of 64 bits, and the cell that it comes from.
+-- A branch-free lookup: its answer in one word of 64 bits, and the cell that it comes from.
 use Prim.Native.Nat.{ℕ, _+_, _*_, _/_, _%_}
 use mathlib.Core.Bool.{cond}
 use mathlib.Core.List.{[], _∷_}
@@ -6,9 +6,9 @@ use lib.Dec.{eqb}
 use Rattle.hash.specs.Hash.{hashOf}
 use Rattle.table.specs.Answers.{Answer, given, absent, refused, refuse, outside}
 
--- the answer in a word: a schedule in the upper half, over 0; otherwise 1000 for absent, or a refusal's number
-unfoldable pub unpacked : ℕ → Answer
-unpacked word =
+-- the answer that a word holds: a schedule in the upper half, over 0; otherwise 1000 for absent, or a refusal's number
+unfoldable pub wordAnswer : ℕ → Answer
+wordAnswer word =
     cond (eqb (word % 4294967296) 0) (given (word / 4294967296 ∷ []))
     (cond (eqb word 1000) absent
     (refused (word % 4294967296) (word / 4294967296)))

@@ -36,12 +36,13 @@ pub record Part (words : List ℕ) (start end : ℕ) : Type 0 where
   pub rises : start ≤ end
   pub below : end ≤ cellCount words
 
--- a table that is whole, of which none of 12 to 15 holds, and that has blocks
-pub record Blocks (p limit : ℕ) (words : List ℕ) : Type 0 where
+-- the sizes of a table with blocks: three words, n above 0, and none of 12 to 15
+pub record WithBlocks (p limit : ℕ) (words : List ℕ) : Type 0 where
   pub three : 3 ≤ length words
   pub some : 0 < codeCount words
   pub sizes : badSizes p limit words ≡ false
 
+-- the same as a test
 unfoldable pub hasBlocks : ℕ → ℕ → List ℕ → Bool
 hasBlocks p limit words = cond (ltb (length words) 3) false (cond (eqb (codeCount words) 0) false (not (badSizes p limit words)))
 

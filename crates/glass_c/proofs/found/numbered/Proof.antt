@@ -7,13 +7,13 @@ use borrow.Author.Needs.{needs}
 use borrow.Author.Tests.{eqb-true}
 use lib.Dec.{eqb}
 use Rattle.hash.proofs.Indicators.{true-or-false}
-use Rattle.table.specs.code.OneWord.{unpacked}
+use Rattle.table.specs.code.OneWord.{wordAnswer}
 use Rattle.table.specs.Numbers.{numberOf, valueOf}
 use Rattle.glass_c.proofs.found.numbered.Statement.{statement}
 use Rattle.glass_c.proofs.found.numbered.Tie as tie
 
-number-shown : (word : ℕ) → word % 4294967296 ≡ numberOf (unpacked word)
-unfolding unpacked
+number-shown : (word : ℕ) → word % 4294967296 ≡ numberOf (wordAnswer word)
+unfolding wordAnswer
 number-shown word =
     elim (true-or-false (eqb (word % 4294967296) 0)) [
       | inl zero ↦ rw zero (eqb-true _ _ zero)
@@ -24,8 +24,8 @@ number-shown word =
           ]
     ]
 
-value-shown : (word : ℕ) → word / 4294967296 ≡ valueOf (unpacked word)
-unfolding unpacked
+value-shown : (word : ℕ) → word / 4294967296 ≡ valueOf (wordAnswer word)
+unfolding wordAnswer
 value-shown word =
     elim (true-or-false (eqb (word % 4294967296) 0)) [
       | inl zero ↦ rw zero

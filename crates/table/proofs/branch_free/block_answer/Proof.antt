@@ -3,18 +3,18 @@ use mathlib.Core.Path.{_∙_, sym}
 use native.Mathlib.Omega.{arith}
 use borrow.Author.Needs.{needs}
 use Rattle.table.specs.Lookup.{inBlock}
-use Rattle.table.specs.code.OneWord.{unpacked}
+use Rattle.table.specs.code.OneWord.{wordAnswer}
 use Rattle.table.proofs.Laws.{tests}
 use Rattle.table.proofs.Probing.{unread, probed}
 use Rattle.table.proofs.branch_free.block_answer.Statement.{statement}
 use Rattle.table.proofs.branch_free.block_answer.Tie as tie
 
 returns : tie.Need-returns
-unfolding inBlock unpacked
+unfolding inBlock wordAnswer
 returns c = let r = c .before .before in rw (← r .block-end .ensures, ← r .before .block-start .ensures) (search tests)
 
 returns-2 : tie.Need-returns-2
-unfolding inBlock unpacked
+unfolding inBlock wordAnswer
 returns-2 c =
     let r = c .before .before .before .before in
     rw (← r .block-end .ensures, ← r .before .block-start .ensures) (search tests)
@@ -22,7 +22,7 @@ returns-2 c =
 returns-3 : tie.Need-returns-3
 returns-3 c =
     let q = c .before .before .before .before .before .before in
-    rw (c .pick .ensures, q .before .before .block-start .ensures, q .before .block-end .ensures)
+    rw (c .select .ensures, q .before .before .block-start .ensures, q .before .block-end .ensures)
     (unread _ _ _ _ (omega arith) (omega arith)
     (rw (← q .block-multiplier .ensures) (sym (c .before .before .outside .ensures) ∙ c .before .if3 .taken)))
 

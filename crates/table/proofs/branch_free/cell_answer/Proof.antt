@@ -11,7 +11,7 @@ returns : tie.Need-returns
 unfolding cellAnswer
 returns c =
     let a = c .before .before .before .before .args in
-    rw (c .pick3 .ensures, c .before .pick2 .ensures, c .before .before .pick .ensures, c .before .before .before .outside .ensures)
+    rw (c .select3 .ensures, c .before .select2 .ensures, c .before .before .select .ensures, c .before .before .before .outside .ensures)
     (picked (eqb (a .m) 0) (eqb (a .stored) (a .code)) (outside 1 999 (a .schedule)) (a .schedule))
 
 pub cell-answer-spec : {M : Type 1} → statement M

@@ -4,14 +4,14 @@ use native.Mathlib.Omega.{arith}
 use borrow.Author.Needs.{needs}
 use borrow.Author.Tests.{not-false}
 use Rattle.table.specs.Lookup.{lookupOf}
-use Rattle.table.specs.code.OneWord.{unpacked}
+use Rattle.table.specs.code.OneWord.{wordAnswer}
 use Rattle.table.proofs.Laws.{sized, has-blocks}
 use Rattle.table.proofs.Steps.{lookup-block}
 use Rattle.table.proofs.branch_free.lookup_word_for.Statement.{statement}
 use Rattle.table.proofs.branch_free.lookup_word_for.Tie as tie
 
 returns : tie.Need-returns
-unfolding lookupOf unpacked
+unfolding lookupOf wordAnswer
 returns c = rw (sym (c .before .outside .ensures) ∙ c .if1 .taken)
 
 returns-2 : tie.Need-returns-2

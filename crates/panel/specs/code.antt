@@ -1,0 +1,2 @@
+-- How a walk ends.
+pub mod Ended
