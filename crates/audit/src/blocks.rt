@@ -10,7 +10,7 @@ ghost use Rattle.hash.specs.Hash.{hashOf};
 ghost use Rattle.table.specs.Answers.{firstOf};
 ghost use Rattle.table.specs.code.Sized.{Within};
 ghost use Rattle.audit.specs.code.Blocks.{elsewhere, notOwn, misplacedFrom, codePlaces, orZero, TableHashed, BlockHashed, BelowPrime, PlacesListed, Tested};
-use table::numbers::held;
+use table::numbers::occupied;
 use table::numbers::wide;
 
 // The hash of a table's codes into its blocks, with the precomputed reciprocal of their number.
@@ -89,7 +89,7 @@ fn test_few<'a>(h: TableHash, b: BlockHash, part: &'a [u32], zero: &'a [u32]) ->
     let bad = (a != 0) & elsewhere(h, b.number, a);
     BlockTest {
         first: select(bad, 0, part.len()),
-        codes: held(a),
+        codes: occupied(a),
     }
 }
 
@@ -103,7 +103,7 @@ fn list_codes(part: &[u32], list: &mut [u16]) -> usize
     let mut t: usize = 0;
     while t < part.len() {
         list[count] = t as u16;
-        count = count + held(part[t]);
+        count = count + occupied(part[t]);
         t = t + 1;
     }
     count

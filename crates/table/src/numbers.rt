@@ -37,7 +37,7 @@ pub fn one(test: bool) -> u32
 }
 
 // 1 for a cell that holds a code, 0 for an empty one.
-pub fn held(a: u32) -> usize
+pub fn occupied(a: u32) -> usize
     ensures { λ r. ⌜ r ≡ cond (eqb a 0) 0 1 ⌝ }
 {
     if a == 0 {

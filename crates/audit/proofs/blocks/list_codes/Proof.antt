@@ -20,12 +20,12 @@ add-count : tie.Need-add-count Inv-loop μ-loop
 add-count c =
     let l = c .before .before .before .loop in
     let part = c .before .before .before .before .before .before .args .part .now in
-    omega (arith, l .inv .within, c .held .ensures, one-at-most (eqb (getD part (l .t) 0) 0))
+    omega (arith, l .inv .within, c .occupied .ensures, one-at-most (eqb (getD part (l .t) 0) 0))
 
 loop-again : tie.Need-loop-again Inv-loop μ-loop
 loop-again c =
     let l = c .before .before .before .loop in
-    rw (c .held .ensures) (listed-next _ _ _ _ (l .t) (omega arith) (omega (arith, l .inv .long)) (l .inv))
+    rw (c .occupied .ensures) (listed-next _ _ _ _ (l .t) (omega arith) (omega (arith, l .inv .long)) (l .inv))
 
 pub list-codes-spec : {M : Type 1} → statement M
 list-codes-spec =

@@ -26,7 +26,7 @@ returns c =
     let a = ap (λ (l : List ℕ). getD l 0 0) (e .before .before .or-zero .ensures) ∙ few-is (s .args .part .now) (s .args .zero .now) (s .pre .1) in
     record {
       first = c .before .select .ensures ∙ rw (e .elsewhere .ensures, a) (few-first (s .args .h) (s .args .b) (s .args .part .now) (s .pre .0 .1 .1 .0) (s .pre .0 .1 .1 .1));
-      codes = c .held .ensures ∙ rw a (few-codes (s .args .part .now) (omega arith));
+      codes = c .occupied .ensures ∙ rw a (few-codes (s .args .part .now) (omega arith));
     }
 
 pub test-few-spec : {M : Type 1} → statement M
