@@ -7,7 +7,7 @@ ghost use Rattle.table.specs.Answers.{firstOf, some};
 ghost use Rattle.table.specs.Words.{total};
 ghost use Rattle.table.specs.code.Sized.{Block, Cell};
 ghost use Rattle.audit.specs.Check.{badStart, badCell};
-ghost use Rattle.audit.specs.code.Ranges.{countOf, badOf};
+ghost use Rattle.audit.specs.code.Ranges.{rangeLength, badOf};
 use table::numbers::outside;
 use table::words::block_multiplier;
 use table::words::block_start;
@@ -46,7 +46,7 @@ fn bad_cell(p: u32, words: &[u32], i: usize) -> bool
 
 // Whether the condition holds of one.
 fn bad(range: Range, p: u32, words: &[u32], i: usize) -> bool
-    requires { ⌜ (1 ≤ p) × ((total (now words) ≤ length (now words)) × (i < countOf range (now words))) ⌝ }
+    requires { ⌜ (1 ≤ p) × ((total (now words) ≤ length (now words)) × (i < rangeLength range (now words))) ⌝ }
     ensures { λ r. ⌜ r ≡ badOf range p (now (words .entry)) i ⌝ }
 {
     match range {
@@ -58,8 +58,8 @@ fn bad(range: Range, p: u32, words: &[u32], i: usize) -> bool
 
 // Whether it holds of any of n.
 fn some_bad(range: Range, p: u32, words: &[u32], n: usize) -> bool
-    requires { ⌜ (1 ≤ p) × ((total (now words) ≤ length (now words)) × (n ≡ countOf range (now words))) ⌝ }
-    ensures { λ r. ⌜ r ≡ some (countOf range (now (words .entry))) (badOf range p (now (words .entry))) ⌝ }
+    requires { ⌜ (1 ≤ p) × ((total (now words) ≤ length (now words)) × (n ≡ rangeLength range (now words))) ⌝ }
+    ensures { λ r. ⌜ r ≡ some (rangeLength range (now (words .entry))) (badOf range p (now (words .entry))) ⌝ }
 {
     let mut found = false;
     let mut i: usize = 0;
@@ -72,8 +72,8 @@ fn some_bad(range: Range, p: u32, words: &[u32], n: usize) -> bool
 
 // The first of n of which it holds, n where there is none.
 pub(crate) fn first_bad(range: Range, p: u32, words: &[u32], n: usize) -> usize
-    requires { ⌜ (1 ≤ p) × ((total (now words) ≤ length (now words)) × (n ≡ countOf range (now words))) ⌝ }
-    ensures { λ r. ⌜ r ≡ firstOf (countOf range (now (words .entry))) (badOf range p (now (words .entry))) ⌝ }
+    requires { ⌜ (1 ≤ p) × ((total (now words) ≤ length (now words)) × (n ≡ rangeLength range (now words))) ⌝ }
+    ensures { λ r. ⌜ r ≡ firstOf (rangeLength range (now (words .entry))) (badOf range p (now (words .entry))) ⌝ }
 {
     if !some_bad(range, p, words, n) {
         return n;

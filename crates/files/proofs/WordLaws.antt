@@ -43,7 +43,7 @@ put-next (x ∷ new) (y ∷ old) (suc i) h l = ap (λ (r : List ℕ). x ∷ r) (
 abbrev fitting : List ℕ → List ℕ → List ℕ
 fitting bytes old = take (length old) (wordsOf bytes)
 
-pub record Filling (bytes old : List ℕ) (n i : ℕ) (now : List ℕ) : Type 0 where
+pub record WordsSoFar (bytes old : List ℕ) (n i : ℕ) (now : List ℕ) : Type 0 where
   pub count : n ≡ length (fitting bytes old)
   pub in-bytes : 4 * n ≤ length bytes
   pub in-words : n ≤ length old
@@ -52,8 +52,8 @@ pub record Filling (bytes old : List ℕ) (n i : ℕ) (now : List ℕ) : Type 0 
   pub written : now ≡ take i (fitting bytes old) ++ drop i old
 
 module _ {bytes old : List ℕ} {n : ℕ} where
-  pub filling-start : n ≡ min (length old) (length bytes / 4) → Filling bytes old n 0 old
-  filling-start e =
+  pub words-start : n ≡ min (length old) (length bytes / 4) → WordsSoFar bytes old n 0 old
+  words-start e =
       record {
         count = e ∙ rw (length-take, words-length bytes);
         in-bytes = omega (arith, min-le-right (length old) (length bytes / 4));
@@ -63,9 +63,9 @@ module _ {bytes old : List ℕ} {n : ℕ} where
         written = refl;
       }
 
-  pub filling-more :
-      {i word : ℕ} {now : List ℕ} → Filling bytes old n i now → i < n → word ≡ wordAt bytes (4 * i) → Filling bytes old n (i + 1) (set now i word)
-  filling-more {i} {word} {now} f h e =
+  pub words-more :
+      {i word : ℕ} {now : List ℕ} → WordsSoFar bytes old n i now → i < n → word ≡ wordAt bytes (4 * i) → WordsSoFar bytes old n (i + 1) (set now i word)
+  words-more {i} {word} {now} f h e =
       let is : word ≡ getD (fitting bytes old) i 0 =
       e ∙ sym (getD-take (length old) (wordsOf bytes) i 0 (omega arith) ∙ word-of bytes i (omega arith)) in
       record {
@@ -77,8 +77,8 @@ module _ {bytes old : List ℕ} {n : ℕ} where
         written = rw (is, f .written, add-one i) (put-next (fitting bytes old) old i (omega arith) (omega arith));
       }
 
-  pub filling-all : {i : ℕ} {now : List ℕ} → Filling bytes old n i now → n ≤ i → WordsFilled bytes old n now
-  filling-all {i} f h =
+  pub words-all : {i : ℕ} {now : List ℕ} → WordsSoFar bytes old n i now → n ≤ i → WordsFilled bytes old n now
+  words-all {i} f h =
       let all : i ≡ length (fitting bytes old) = omega arith in
       record { count = f .count; words = f .written ∙ rw (all, take-length) }
 

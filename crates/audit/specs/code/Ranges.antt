@@ -7,10 +7,10 @@ use Rattle.audit.specs.Check.{badStart, badBlockMultiplier, badCell}
 use Rattle.audit.specs.declared.ranges.Range.{Range}
 use Rattle.audit.specs.declared.ranges.Range.the-variants.{Starts, Multipliers, Cells}
 
-abbrev pub countOf : Range → List ℕ → ℕ
-countOf Starts words = codeCount words
-countOf Multipliers words = codeCount words
-countOf Cells words = cellCount words
+abbrev pub rangeLength : Range → List ℕ → ℕ
+rangeLength Starts words = codeCount words
+rangeLength Multipliers words = codeCount words
+rangeLength Cells words = cellCount words
 
 abbrev pub badOf : Range → ℕ → List ℕ → ℕ → Bool
 badOf Starts p words = badStart words

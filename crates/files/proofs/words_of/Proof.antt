@@ -2,12 +2,12 @@
 use Prim.Native.Nat.{_-_}
 use native.Mathlib.Omega.{arith}
 use borrow.Author.Needs.{needs}
-use Rattle.files.proofs.WordLaws.{Filling, filling-start, filling-more, filling-all}
+use Rattle.files.proofs.WordLaws.{WordsSoFar, words-start, words-more, words-all}
 use Rattle.files.proofs.words_of.Statement.{statement}
 use Rattle.files.proofs.words_of.Tie as tie
 
 abbrev Inv-loop : tie.InvT-loop
-Inv-loop bytes words₀ n i₀ words i = Filling bytes words₀ n i words
+Inv-loop bytes words₀ n i₀ words i = WordsSoFar bytes words₀ n i words
 
 abbrev μ-loop : tie.MeasureT-loop
 μ-loop bytes words₀ n i₀ words i = n - i
@@ -19,13 +19,13 @@ words-of-spec =
     Inv-loop
     μ-loop
     (λ c κs. search needs)
-    (λ c. filling-start (c .smaller .ensures))
+    (λ c. words-start (c .smaller .ensures))
     (λ c. omega arith)
     (λ c κs. omega arith)
     (λ c. omega arith)
     (λ c. omega arith)
     (λ c. omega arith)
     (λ c. omega arith)
-    (λ c. filling-more (c .before .before .loop .inv) (c .before .loop-test .taken) (c .word-at .ensures))
+    (λ c. words-more (c .before .before .loop .inv) (c .before .loop-test .taken) (c .word-at .ensures))
     (λ c. c .before .loop .inv .same-length)
-    (λ c. filling-all (c .before .loop .inv) (c .loop-test .left)))
+    (λ c. words-all (c .before .loop .inv) (c .loop-test .left)))

@@ -15,12 +15,12 @@ use Rattle.audit.proofs.Cells.{TestedFrom, tested-none, tested-next, te
 use Rattle.audit.proofs.blocks.test_many.Statement.{statement}
 use Rattle.audit.proofs.blocks.test_many.Tie as tie
 
-record Inv (h : TableHash) (b : BlockHash) (part old list : List ℕ) (first codes e : ℕ) : Type 0 where
+record RunInvariant (h : TableHash) (b : BlockHash) (part old list : List ℕ) (first codes e : ℕ) : Type 0 where
   long : length list ≡ length old
   tested : TestedFrom h b part first codes e
 
 abbrev Inv-loop : tie.InvT-loop
-Inv-loop h b part list₀ first₀ codes₀ e₀ list first codes e = Inv h b part list₀ list first codes e
+Inv-loop h b part list₀ first₀ codes₀ e₀ list first codes e = RunInvariant h b part list₀ list first codes e
 
 abbrev μ-loop : tie.MeasureT-loop
 μ-loop h b part list₀ first₀ codes₀ e₀ list first codes e = e

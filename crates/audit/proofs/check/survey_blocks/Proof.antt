@@ -16,13 +16,13 @@ use Rattle.audit.proofs.Survey.{SurveyedFrom, surveyed-none, surveyed-r
 use Rattle.audit.proofs.check.survey_blocks.Statement.{statement}
 use Rattle.audit.proofs.check.survey_blocks.Tie as tie
 
-record Inv (p : ℕ) (words list : List ℕ) (first square codes end j : ℕ) : Type 0 where
+record PassInvariant (p : ℕ) (words list : List ℕ) (first square codes end j : ℕ) : Type 0 where
   long : length list ≡ 81
   end-at : end ≡ edge words j
   surveyed : SurveyedFrom p words first square codes j
 
 abbrev Inv-loop : tie.InvT-loop
-Inv-loop h words n c list₀ first₀ square₀ codes₀ end₀ j₀ list first square codes end j = Inv (h .prime) words list first square codes end j
+Inv-loop h words n c list₀ first₀ square₀ codes₀ end₀ j₀ list first square codes end j = PassInvariant (h .prime) words list first square codes end j
 
 abbrev μ-loop : tie.MeasureT-loop
 μ-loop h words n c list₀ first₀ square₀ codes₀ end₀ j₀ list first square codes end j = j

@@ -4,17 +4,17 @@ use mathlib.Core.Path.{sym, _∙_}
 use native.Mathlib.Omega.{arith}
 use borrow.Author.Tests.{not-true}
 use borrow.Author.Needs.{needs}
-use Rattle.audit.specs.code.Ranges.{countOf, badOf}
+use Rattle.audit.specs.code.Ranges.{rangeLength, badOf}
 use Rattle.table.proofs.First.{Below, below-none, below-next, first-found, first-end}
 use Rattle.table.proofs.Some.{none-first}
 use Rattle.audit.proofs.ranges.first_bad.Statement.{statement}
 use Rattle.audit.proofs.ranges.first_bad.Tie as tie
 
 abbrev Inv-loop : tie.InvT-loop
-Inv-loop range p words n i₀ i = (i ≤ countOf range words) × Below (badOf range p words) i
+Inv-loop range p words n i₀ i = (i ≤ rangeLength range words) × Below (badOf range p words) i
 
 abbrev μ-loop : tie.MeasureT-loop
-μ-loop range p words n i₀ i = countOf range words - i
+μ-loop range p words n i₀ i = rangeLength range words - i
 
 returns : tie.Need-returns Inv-loop μ-loop
 returns c = c .before .before .before .pre .1 .1 ∙ sym (none-first _ _ (sym (c .before .some-bad .ensures) ∙ not-true _ (c .if1 .taken)))

@@ -6,16 +6,16 @@ use mathlib.Core.Path.{_≡_, sym, ap₂, _∙_}
 use native.Mathlib.Omega.{arith}
 use borrow.Author.Needs.{needs}
 use Rattle.table.specs.Answers.{some}
-use Rattle.audit.specs.code.Ranges.{countOf, badOf}
+use Rattle.audit.specs.code.Ranges.{rangeLength, badOf}
 use Rattle.table.proofs.Some.{some-of-none, some-next, some-end}
 use Rattle.audit.proofs.ranges.some_bad.Statement.{statement}
 use Rattle.audit.proofs.ranges.some_bad.Tie as tie
 
 abbrev Inv-loop : tie.InvT-loop
-Inv-loop range p words n found₀ i₀ found i = (i ≤ countOf range words) × (found ≡ some i (badOf range p words))
+Inv-loop range p words n found₀ i₀ found i = (i ≤ rangeLength range words) × (found ≡ some i (badOf range p words))
 
 abbrev μ-loop : tie.MeasureT-loop
-μ-loop range p words n found₀ i₀ found i = countOf range words - i
+μ-loop range p words n found₀ i₀ found i = rangeLength range words - i
 
 loop-holds : tie.Need-loop-holds Inv-loop μ-loop
 loop-holds c = (omega arith, sym (some-of-none _))
