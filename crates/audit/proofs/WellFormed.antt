@@ -15,7 +15,7 @@ use Rattle.table.specs.Lookup.{tooManyCodes, tooManyCells, badMultiplier, tooSh
 use Rattle.table.specs.code.Sized.{Sized}
 use Rattle.table.proofs.Laws.{sized-by}
 use Rattle.table.proofs.First.{none-refused}
-use Rattle.table.proofs.Refusals.{Refusal, Passed, Settled, refusals-pass, refusals-given, refusals-settled}
+use Rattle.table.proofs.Refusals.{Refusal, Passed, GivenOrRefused, refusals-pass, refusals-given, refusals-given-or-refused}
 use Rattle.audit.specs.Check.{checkOf, badStart, badBlockMultiplier, badCell, misplaced, badSquare, codesIn, allCodes}
 use Rattle.audit.specs.WellFormed.{WellFormed}
 use Rattle.audit.specs.code.Starts.{Starts}
@@ -42,9 +42,9 @@ tests p limit words =
     ∷ record { fails = not (eqb (codesIn (allCodes words)) (codeCount words)); number = 21; value = codesIn (allCodes words) }
     ∷ []
 
-pub accepted-or-refused : (p limit : ℕ) (words : List ℕ) → Settled (codeCount words ∷ total words ∷ []) (checkOf p limit words)
+pub accepted-or-refused : (p limit : ℕ) (words : List ℕ) → GivenOrRefused (codeCount words ∷ total words ∷ []) (checkOf p limit words)
 unfolding checkOf tests
-accepted-or-refused p limit words = refusals-settled (tests p limit words) (codeCount words ∷ total words ∷ [])
+accepted-or-refused p limit words = refusals-given-or-refused (tests p limit words) (codeCount words ∷ total words ∷ [])
 
 pub cells-hold : (p limit : ℕ) (words : List ℕ) → WellFormed p limit words → tooManyCells words ≡ false
 cells-hold p limit words f =

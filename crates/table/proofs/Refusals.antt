@@ -23,8 +23,8 @@ Passed [] = Unit {0}
 Passed (r ∷ rest) = (r .fails ≡ false) × Passed rest
 
 -- the answer is these values, or a refusal
-abbrev pub Settled : List ℕ → Answer → Type 0
-Settled values answer = (answer ≡ given values) ⊎ ((number : ℕ) × (value : ℕ) × (answer ≡ refused number value))
+abbrev pub GivenOrRefused : List ℕ → Answer → Type 0
+GivenOrRefused values answer = (answer ≡ given values) ⊎ ((number : ℕ) × (value : ℕ) × (answer ≡ refused number value))
 
 pub never-both : {A : Type 0} {number value : ℕ} {values : List ℕ} {answer : Answer} → answer ≡ refused number value → answer ≡ given values → A
 never-both r g = let z : _≡_ {A = ℕ} 0 1 = cc in absurd (omega arith)
@@ -46,15 +46,15 @@ refusals-given (r ∷ rest) values vs e =
     (p .0, refusals-given rest values vs (p .1))
 
 refuse-settled :
-    (fails : Bool) (number value : ℕ) (rest : Answer) (values : List ℕ) → Settled values rest → Settled values (refuse fails number value rest)
+    (fails : Bool) (number value : ℕ) (rest : Answer) (values : List ℕ) → GivenOrRefused values rest → GivenOrRefused values (refuse fails number value rest)
 refuse-settled true number value rest values s = inr (number, value, refl)
 refuse-settled false number value rest values s = s
 
-pub refusals-settled : (tests : List Refusal) (values : List ℕ) → Settled values (refusals tests values)
-refusals-settled [] values = inl refl
-refusals-settled (r ∷ rest) values =
-    refuse-settled (r .fails) (r .number) (r .value) (refusals rest values) values (refusals-settled rest values)
+pub refusals-given-or-refused : (tests : List Refusal) (values : List ℕ) → GivenOrRefused values (refusals tests values)
+refusals-given-or-refused [] values = inl refl
+refusals-given-or-refused (r ∷ rest) values =
+    refuse-settled (r .fails) (r .number) (r .value) (refusals rest values) values (refusals-given-or-refused rest values)
 
 -- what is given are these values
-pub settled-given : {values vs : List ℕ} {answer : Answer} → Settled values answer → answer ≡ given vs → vs ≡ values
-settled-given s e = ⊎-elim (λ g. cc) (λ r. never-both (r .2) e) s
+pub is-given : {values vs : List ℕ} {answer : Answer} → GivenOrRefused values answer → answer ≡ given vs → vs ≡ values
+is-given s e = ⊎-elim (λ g. cc) (λ r. never-both (r .2) e) s
