@@ -56,13 +56,16 @@ fn bad(range: Range, p: u32, words: &[u32], i: usize) -> bool
     }
 }
 
-// Whether it holds of any of n.
+// Whether it holds of any of n. The first is tested apart, so that no test in the loop depends on the index.
 fn some_bad(range: Range, p: u32, words: &[u32], n: usize) -> bool
     requires { ⌜ (1 ≤ p) × ((total (now words) ≤ length (now words)) × (n ≡ rangeLength range (now words))) ⌝ }
     ensures { λ r. ⌜ r ≡ some (rangeLength range (now (words .entry))) (badOf range p (now (words .entry))) ⌝ }
 {
-    let mut found = false;
-    let mut i: usize = 0;
+    if n == 0 {
+        return false;
+    }
+    let mut found = bad(range, p, words, 0);
+    let mut i: usize = 1;
     while i < n {
         found = found | bad(range, p, words, i);
         i = i + 1;

@@ -7,7 +7,7 @@ use native.Mathlib.Omega.{arith}
 use borrow.Author.Needs.{needs}
 use Rattle.table.specs.Answers.{some}
 use Rattle.audit.specs.code.Ranges.{rangeLength, badOf}
-use Rattle.table.proofs.Some.{some-of-none, some-next, some-end}
+use Rattle.table.proofs.Some.{some-of-none, some-one, some-next, some-end}
 use Rattle.audit.proofs.ranges.some_bad.Statement.{statement}
 use Rattle.audit.proofs.ranges.some_bad.Tie as tie
 
@@ -17,14 +17,17 @@ Inv-loop range p words n found₀ i₀ found i = (i ≤ rangeLength range words)
 abbrev μ-loop : tie.MeasureT-loop
 μ-loop range p words n found₀ i₀ found i = rangeLength range words - i
 
+returns : tie.Need-returns Inv-loop μ-loop
+returns c = some-end _ 0 _ (omega arith) (omega arith) (sym (some-of-none _))
+
 loop-holds : tie.Need-loop-holds Inv-loop μ-loop
-loop-holds c = (omega arith, sym (some-of-none _))
+loop-holds c = (omega arith, c .bad .ensures ∙ sym (some-one _))
 
 loop-again : tie.Need-loop-again Inv-loop μ-loop
-loop-again c = (omega arith, ap₂ _||_ (c .before .before .loop .inv .1) (c .bad .ensures) ∙ sym (some-next _ _))
+loop-again c = (omega arith, ap₂ _||_ (c .before .before .loop .inv .1) (c .bad2 .ensures) ∙ sym (some-next _ _))
 
-returns : tie.Need-returns Inv-loop μ-loop
-returns c = some-end _ _ _ (c .before .loop .inv .0) (omega arith) (c .before .loop .inv .1)
+returns-2 : tie.Need-returns-2 Inv-loop μ-loop
+returns-2 c = some-end _ _ _ (c .before .loop .inv .0) (omega arith) (c .before .loop .inv .1)
 
 pub some-bad-spec : {M : Type 1} → statement M
 some-bad-spec =
@@ -32,9 +35,11 @@ some-bad-spec =
     (tie.spec
     Inv-loop
     μ-loop
+    returns
+    (λ c κs. search needs)
     loop-holds
     (λ c κs. search needs)
     (λ c. omega arith)
     (λ c. omega arith)
     loop-again
-    returns)
+    returns-2)
