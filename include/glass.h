@@ -9,7 +9,7 @@
  * pointer will do): nothing is read or written through it. Arrays that are written may overlap no other array of the same call. A refusal changes nothing
  * that was lent.
  *
- * Stack. STACK
+ * Stack. glass_insert and glass_remove use up to 100 KiB, glass_build up to 52 KiB, glass_pairs up to 34 KiB, the others less than 1 KiB.
  *
  * Answers. Every function answers a number and a value: GLASS_OK with the result, GLASS_ABSENT (lookup, panel), or a refusal with what comes with it.
  * Refusals are tested in the order in which each function lists them, each over all pairs, blocks or cells before the next; pairs, blocks and cells are
