@@ -25,6 +25,10 @@ use table::words::has_blocks;
 
 pub enum Fired {
     Schedule(u32),
+    // 35
+    NoCodes,
+    // 36
+    TooManyCodes,
     // the first code that is absent, by its index
     Unknown(u32),
     // 31 to 34: the first code that is refused, by its index
@@ -32,10 +36,6 @@ pub enum Fired {
     TooFewWords(u32),
     BadSizes(u32),
     BadBlock(u32),
-    // 35
-    NoCodes,
-    // 36
-    TooManyCodes,
 }
 
 // How a lookup that found no schedule ends the panel at index i.
