@@ -22,11 +22,11 @@ use Rattle.audit.specs.code.Starts.{Starts}
 use Rattle.audit.proofs.Bounds.{some-codes}
 use Rattle.audit.proofs.Passing.{starts-pass, starts-hold, multiplier-passes, cell-passes, place-passes, square-passes}
 
-first-refusal : ℕ → (ℕ → Bool) → ℕ → Refusal
+unfoldable pub first-refusal : ℕ → (ℕ → Bool) → ℕ → Refusal
 first-refusal n test number = record { fails = ltb (firstOf n test) n; number = number; value = firstOf n test }
 
 -- the tests of a check, in the paper's order
-tests : ℕ → ℕ → List ℕ → List Refusal
+unfoldable pub tests : ℕ → ℕ → List ℕ → List Refusal
 unfolding first-refusal
 tests p limit words =
     record { fails = ltb (length words) 3; number = 11; value = 0 }

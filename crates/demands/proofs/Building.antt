@@ -2,13 +2,15 @@
 use Prim.Native.Nat.{ℕ, _≤_}
 use native.Mathlib.Omega.{arith}
 use mathlib.Core.List.{List, [], _∷_}
-use mathlib.Core.Path.{_≡_, sym, _∙_}
+use mathlib.Core.Path.{_≡_, sym, ap, _∙_}
 use lib.ListN.{length, take}
+use lib.Seq.{take-length}
 use Rattle.hash.proofs.Primes.{prime-65537}
 use Rattle.table.specs.Answers.{given}
+use Rattle.table.specs.Words.{cellCount}
 use Rattle.table.specs.TwoLevel.{wordsNeeded, tableOf}
 use Rattle.table.specs.Lookup.{lookupOf}
-use Rattle.table.proofs.Contents.{Tabled, tabled}
+use Rattle.table.proofs.Contents.{needed-is, table-length, Tabled, tabled}
 use Rattle.audit.specs.WellFormed.{WellFormed}
 use Rattle.table.specs.Pairs.{codesOf, schedulesOf}
 use Rattle.reader.specs.Pairs.{pairsIn}
@@ -16,11 +18,13 @@ use Rattle.audit.proofs.Lookups.{lookup-range}
 use Rattle.builder.specs.Build.{builtWords}
 use Rattle.lists.specs.Valid.{Valid}
 use Rattle.demands.specs.Lists.{Listed, rightAnswer, enough, lookedAt}
-use Rattle.demands.specs.Theorems.{Accepted, TableOfList, Settled, BuiltFrom, Building}
+use Rattle.demands.specs.Theorems.{Accepted, TwoLevelTable, TableOfList, Settled, BuiltFrom, Building}
 use Rattle.demands.proofs.Within.{looked-within}
 use Rattle.demands.proofs.Reading.{reading}
 use Rattle.demands.proofs.RightAnswer.{right-exactly}
 use Rattle.demands.proofs.BuildingWellFormed.{well-formed}
+use Rattle.demands.proofs.BuildingTwoLevel.{two-level}
+use Rattle.demands.proofs.BuildingOnly.{same-c, only-table}
 use Rattle.demands.proofs.BuildingLookup.{lookup-right}
 use Rattle.demands.proofs.BuildingBuild.{build-succeeds, built-table, built-kept, needed-enough}
 use Rattle.demands.proofs.BuildingOrder.{order-succeeds, order-table}
@@ -28,6 +32,11 @@ use Rattle.demands.proofs.BuildingOrder.{order-succeeds, order-table}
 -- ---- the table of a list
 
 module _ (codes schedules : List ℕ) (valid : Valid 65537 2048 codes schedules) where
+  whole : take (wordsNeeded 65537 codes) (tableOf 65537 codes schedules) ≡ tableOf 65537 codes schedules
+  whole =
+      ap (λ (n : ℕ). take n (tableOf 65537 codes schedules)) (sym (table-length 65537 codes schedules))
+      ∙ take-length (tableOf 65537 codes schedules)
+
   module _ (words : List ℕ) (e : take (wordsNeeded 65537 codes) words ≡ tableOf 65537 codes schedules) where
     t : Tabled 65537 codes schedules words
     t = tabled 65537 codes schedules words e
@@ -55,9 +64,27 @@ module _ (codes schedules : List ℕ) (valid : Valid 65537 2048 codes schedules)
         reading .pairs-exactly words accept a s .0
         (right a from to ∙ right-exactly codes schedules a s (valid .parallel) (valid .codes-valid .different) .1 l)
 
+  -- the words of the table alone are the two-level table
+  own : TwoLevelTable codes schedules (tableOf 65537 codes schedules)
+  own = two-level codes schedules valid _ (t (tableOf 65537 codes schedules) whole)
+
+  only :
+      (words : List ℕ) → wordsNeeded 65537 codes ≤ length words → TwoLevelTable codes schedules words
+      → take (wordsNeeded 65537 codes) words ≡ tableOf 65537 codes schedules
+  only words l table =
+      let long : length (tableOf 65537 codes schedules) ≡ wordsNeeded 65537 codes = table-length 65537 codes schedules in
+      let c : cellCount words ≡ cellCount (tableOf 65537 codes schedules) = same-c codes schedules words _ table own in
+      only-table codes schedules words (tableOf 65537 codes schedules) table own (wordsNeeded 65537 codes)
+      (omega (arith, needed-is 65537 codes, t (tableOf 65537 codes schedules) whole .celled))
+      l
+      (omega arith)
+      ∙ whole
+
   table-of-list : TableOfList codes schedules
   table-of-list =
       record {
+        two-level = λ words l. (λ e. two-level codes schedules valid words (t words e), only words l);
+        total-is = λ words e. omega (arith, needed-is 65537 codes, t words e .celled);
         lookup-right = right;
         accepted = accept;
         reads-back = λ words e a s. (read words e a s, unread words e a s);

@@ -10,7 +10,7 @@ use lib.Seq.{take-at, drop-at}
 use borrow.Author.Tests.{eq-eqb, ne-eqb, le-ltb}
 use Rattle.hash.specs.Hash.{Codes}
 use Rattle.hash.specs.Theorems.{Prime}
-use Rattle.table.specs.Answers.{Answer, given, filled, over}
+use Rattle.table.specs.Answers.{Answer, given, intoRoom, filled, over}
 use Rattle.table.specs.TwoLevel.{wordsNeeded, tableOf}
 use Rattle.table.proofs.Chosen.{few-cells, no-cells}
 use Rattle.table.proofs.Contents.{needed-is, table-length}
@@ -20,10 +20,21 @@ use Rattle.lists.specs.Valid.{Valid}
 use Rattle.demands.specs.Lists.{enough}
 
 module _ {p limit : ℕ} (codes schedules : List ℕ) (valid : Valid p limit codes schedules) where
+  -- 6 is left
+  pub build-answer : (lent : ℕ) → buildOf p limit codes schedules lent ≡ intoRoom 6 (wordsNeeded p codes) lent
+  unfolding buildOf
+  build-answer lent = valid-passes valid _
+
+  pub build-leaves :
+      (words : List ℕ)
+      → builtWords p limit codes schedules words
+      ≡ filled (intoRoom 6 (wordsNeeded p codes) (length words)) (tableOf p codes schedules) words
+  unfolding builtWords
+  build-leaves words = ap (λ (r : Answer). filled r (tableOf p codes schedules) words) (build-answer (length words))
+
   pub build-succeeds :
       (lent : ℕ) → wordsNeeded p codes ≤ lent → buildOf p limit codes schedules lent ≡ given (wordsNeeded p codes ∷ [])
-  unfolding buildOf
-  build-succeeds lent h = valid-passes valid _ ∙ rw (le-ltb lent (wordsNeeded p codes) h)
+  build-succeeds lent h = build-answer lent ∙ rw (le-ltb lent (wordsNeeded p codes) h)
 
   module _ (words : List ℕ) (room : wordsNeeded p codes ≤ length words) where
     built-is : builtWords p limit codes schedules words ≡ over (tableOf p codes schedules) words

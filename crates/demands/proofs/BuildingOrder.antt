@@ -1,16 +1,16 @@
 -- Every order of the same pairs has the same total and the same table.
 use Prim.Native.Nat.{ℕ, _≤_}
 use mathlib.Core.List.{List, [], _∷_}
-use mathlib.Core.Path.{_≡_, refl, sym, ap, _∙_}
+use mathlib.Core.Path.{_≡_, refl, sym, ap, ap₂, _∙_}
 use lib.ListN.{length, getD, take}
 use Rattle.hash.specs.Theorems.{Prime}
-use Rattle.table.specs.Answers.{given}
+use Rattle.table.specs.Answers.{given, intoRoom, filled}
 use Rattle.table.specs.TwoLevel.{wordsNeeded, tableOf}
 use Rattle.table.proofs.Order.{PairsIn, codes-order, needed-order, table-order}
 use Rattle.builder.specs.Build.{buildOf, builtWords}
 use Rattle.lists.specs.Valid.{Valid}
 use Rattle.demands.specs.Lists.{Listed, SamePairs}
-use Rattle.demands.proofs.BuildingBuild.{build-succeeds, built-table}
+use Rattle.demands.proofs.BuildingBuild.{build-answer, build-leaves, build-succeeds, built-table}
 
 listed-in :
     (codes schedules codes′ schedules′ : List ℕ)
@@ -38,6 +38,19 @@ module _
         (valid′ .parallel)
         (listed-in codes schedules codes′ schedules′ (same .there))
         (listed-in codes′ schedules′ codes schedules (same .back))
+
+    -- in any lent words, too few ones too
+    pub order-answer : (lent : ℕ) → buildOf p limit codes schedules lent ≡ buildOf p limit codes′ schedules′ lent
+    order-answer lent =
+        build-answer codes schedules valid lent
+        ∙ ap (λ (n : ℕ). intoRoom 6 n lent) order-needed
+        ∙ sym (build-answer codes′ schedules′ valid′ lent)
+
+    pub order-leaves : (words : List ℕ) → builtWords p limit codes schedules words ≡ builtWords p limit codes′ schedules′ words
+    order-leaves words =
+        build-leaves codes schedules valid words
+        ∙ ap₂ (λ (n : ℕ) (table : List ℕ). filled (intoRoom 6 n (length words)) table words) order-needed order-same
+        ∙ sym (build-leaves codes′ schedules′ valid′ words)
 
     pub order-succeeds :
         (lent : ℕ) → wordsNeeded p codes′ ≤ lent → buildOf p limit codes′ schedules′ lent ≡ given (wordsNeeded p codes ∷ [])

@@ -1,13 +1,18 @@
 -- In reading order: the words that settle a lookup, and tables from anywhere; then the table of a list: its cells, that it is
--- well-formed, its lookups, its build, other orders of the list, and all together.
+-- well-formed, its multipliers, its lookups, its build, other orders of the list, and all together.
 pub mod Settle
 pub mod Within
 pub mod Reading
 pub mod RightAnswer
 pub mod BuildingCells
 pub mod BuildingWellFormed
+pub mod BuildingTwoLevel
+pub mod BuildingOnly
 pub mod BuildingLookup
 pub mod BuildingBuild
 pub mod BuildingOrder
 pub mod Building
+pub mod Editing
+pub mod Answering
+pub mod Keeping
 pub mod Theorems

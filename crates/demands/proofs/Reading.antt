@@ -3,22 +3,24 @@
 use Prim.Native.Nat.{ℕ, zero, suc, _<_, _≤_}
 use native.Mathlib.Omega.{arith}
 use mathlib.Core.List.{List, [], _∷_, List·Memᴰ, List·Memᴰ·head, List·Memᴰ·tail}
-use mathlib.Core.Logic.{_↔_}
+use mathlib.Core.Logic.{_↔_, _⊎_, inl, inr}
 use mathlib.Core.Path.{_≡_, refl, sym, ap, _∙_}
 use borrow.Author.Tests.{le-ltb}
 use lib.ListN.{length, getD, length-map}
-use Rattle.table.specs.Answers.{given}
-use Rattle.table.specs.Words.{codeCount}
+use Rattle.table.specs.Answers.{Answer, given, absent, filled}
+use Rattle.table.specs.Words.{codeCount, cellSchedule}
 use Rattle.table.specs.Lookup.{lookupOf}
 use Rattle.audit.specs.Check.{checkOf}
 use Rattle.audit.specs.WellFormed.{WellFormed}
 use Rattle.table.specs.Pairs.{Pair, codesOf, schedulesOf}
 use Rattle.reader.specs.Pairs.{pairsIn, pairsOf}
+use Rattle.audit.proofs.Lookups.{lookup-found, lookup-absent}
 use Rattle.audit.proofs.WellFormed.{check-exactly}
 use Rattle.reader.proofs.PairLaws as Pairs
 use Rattle.lists.specs.Valid.{Valid}
 use Rattle.demands.specs.Lists.{Listed}
 use Rattle.demands.specs.Theorems.{Reading}
+use Rattle.demands.proofs.RightAnswer.{right-cases}
 use Rattle.demands.proofs.Settle.{lookedAt-eight, settle}
 
 -- ---- a pair of a list, by index and by membership
@@ -81,6 +83,21 @@ module _ {p limit : ℕ} {words : List ℕ} (f : WellFormed p limit words) where
           (pairsIn words)
       at i l = listed-mem (pairsIn words) (record { index = i; in-list = l; code-there = refl; schedule-there = refl })
 
+-- a code in range that no pair has is absent
+pub found-or-absent :
+    {p limit : ℕ} {words : List ℕ} → WellFormed p limit words → (a : ℕ) → 1 ≤ a → a < p
+    → ((s : ℕ) × (lookupOf p limit words a ≡ given (s ∷ []))) ⊎ (lookupOf p limit words a ≡ absent)
+found-or-absent {words = words} f a from below =
+    elim (right-cases (codesOf (pairsIn words)) (schedulesOf (pairsIn words)) a (pairs-valid f .parallel)) [
+      | inl r ↦ inl (r .schedule, pairs-exactly f a (r .schedule) .1 (r .listed))
+      | inr r ↦
+          inr
+          (lookup-absent f a from below
+          (λ i l e.
+          let there = pairs-exactly f a (cellSchedule words i) .0 (lookup-found f a from below i l e) in
+          r .nowhere (there .index) (there .in-list) (there .code-there)))
+    ]
+
 -- an accepted table is read back
 pub read-back :
     (p limit : ℕ) (words codes schedules values : List ℕ) → checkOf p limit words ≡ given values → codeCount words ≤ length codes
@@ -93,10 +110,16 @@ pub reading : Reading
 reading =
     record {
       check-exactly = check-exactly 65537 2048;
-      read-back = λ words codes schedules e. read-back 65537 2048 words codes schedules _ e;
+      read-back = λ words codes schedules answer codes′ schedules′ accept hc hs read.
+          let e = read-back 65537 2048 words codes schedules _ accept hc hs in (
+            read .answers ∙ e,
+            read .codes-at-exit ∙ ap (λ (r : Answer). filled r (codesOf (pairsIn words)) codes) e,
+            read .schedules-at-exit ∙ ap (λ (r : Answer). filled r (schedulesOf (pairsIn words)) schedules) e,
+          );
       pairs-number = λ words e. pairs-number (check-exactly 65537 2048 words .0 e);
       pairs-rise = λ words e. Pairs.pairs-rise (check-exactly 65537 2048 words .0 e);
       pairs-exactly = λ words e. pairs-exactly (check-exactly 65537 2048 words .0 e);
+      found-or-absent = λ words e a from to. found-or-absent (check-exactly 65537 2048 words .0 e) a from (omega arith);
       eight-at-most = lookedAt-eight 65537;
       eight-settle = settle 65537 2048;
     }

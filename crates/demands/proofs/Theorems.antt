@@ -1,7 +1,20 @@
 -- Every record of specs/Theorems.antt, by its proof.
-use Rattle.demands.specs.Theorems.{Reading, Building}
+use Rattle.demands.specs.Theorems.{Answering, Keeping, Exporting, Reading, Building, Editing}
+use Rattle.demands.proofs.Answering as on-answers
+use Rattle.demands.proofs.Keeping as on-refusals
 use Rattle.demands.proofs.Reading as on-reading
 use Rattle.demands.proofs.Building as on-building
+use Rattle.demands.proofs.Editing as on-editing
+
+-- demand 1: what each operation answers, and that a refusal keeps lent memory
+pub answering : Answering
+answering = on-answers.answering
+
+pub keeping : Keeping
+keeping = on-refusals.keeping
+
+pub exporting : Exporting
+exporting = on-refusals.exporting
 
 -- demand 2, of tables from anywhere
 pub reading : Reading
@@ -10,3 +23,7 @@ reading = on-reading.reading
 -- demands 2 and 3, of every valid list
 pub building : Building
 building = on-building.building
+
+-- put in, take out
+pub editing : Editing
+editing = on-editing.editing

@@ -1,21 +1,112 @@
 -- The demands on the product, as theorems of the definitions that its contracts cite: prime 65,537, at most 2,048 pairs.
--- Statements only. proofs/Theorems.antt has a value of each record that is proved; the README says which.
-use Prim.Native.Nat.{ℕ, _+_, _<_, _≤_}
-use mathlib.Core.List.{List, [], _∷_}
-use mathlib.Core.Logic.{_↔_}
+-- Statements only; proofs/Theorems.antt has a value of each record.
+use Prim.Native.Nat.{ℕ, _+_, _*_, _<_, _≤_}
+use mathlib.Core.Bool.{cond}
+use mathlib.Core.List.{List, [], _∷_, _++_}
+use mathlib.Core.Logic.{_↔_, _⊎_}
 use mathlib.Core.Path.{_≡_}
+use lib.Dec.{eqb, leb}
 use lib.ListN.{length, getD, take, drop}
-use Rattle.table.specs.Answers.{given}
-use Rattle.table.specs.Words.{codeCount, total}
+use Rattle.hash.specs.Hash.{load, members, together, sum, cells}
+use Rattle.hash.specs.Theorems.{Least}
+use Rattle.table.specs.Answers.{Answer, given, absent, over}
+use Rattle.table.specs.Words.{codeCount, cellCount, multiplier, total, blockStart, blockEnd, blockMultiplier, cellCode, cellSchedule, ownCell}
 use Rattle.table.specs.TwoLevel.{wordsNeeded, tableOf}
 use Rattle.table.specs.Lookup.{lookupOf}
+use Rattle.table.specs.declared.answers.Numbered.{Numbered}
+use Rattle.panel.specs.Panel.{panelOf}
 use Rattle.audit.specs.Check.{checkOf}
 use Rattle.audit.specs.WellFormed.{WellFormed}
-use Rattle.table.specs.Pairs.{codesOf, schedulesOf}
-use Rattle.reader.specs.Pairs.{pairsIn, pairsOf}
-use Rattle.builder.specs.Build.{buildOf, builtWords}
+use Rattle.table.specs.Pairs.{Pair, codesOf, schedulesOf}
+use Rattle.reader.specs.Pairs.{pairsIn, pairsOf, PairsRead}
+use Rattle.builder.specs.Build.{buildOf, builtWords, Built}
+use Rattle.editor.specs.Edit.{without, withPair, tableOfPairs, insertOf, removeOf, Inserted, Removed}
+use Rattle.files.specs.Bytes.{wordsOf}
+use Rattle.listing.specs.Listing.{fileOf}
+use Rattle.glass_c.specs.Exports.{BuildShown, PairsShown, InsertShown, RemoveShown}
 use Rattle.lists.specs.Valid.{Valid}
 use Rattle.demands.specs.Lists.{Listed, SamePairs, rightAnswer, enough, AgreeAt, lookedAt}
+use Rattle.demands.specs.Answered.{IsRefusal, ResultOr, LookupAnswer, PanelAnswer, FilledOrKept, readAs}
+
+-- the refusals of a check: those that come with 0, and the others
+abbrev pub checkAlone : List ℕ
+checkAlone = 11 ∷ 12 ∷ 13 ∷ 14 ∷ []
+
+abbrev pub checkValued : List ℕ
+checkValued = 15 ∷ 16 ∷ 17 ∷ 18 ∷ 19 ∷ 20 ∷ 21 ∷ []
+
+-- Demand 1: what each operation answers, whatever the list, the words and the code
+pub record Answering : Type 0 where
+  -- build: the total, or 1 to 6
+  pub build :
+      (codes schedules : List ℕ) (lent : ℕ)
+      → ResultOr (wordsNeeded 65537 codes ∷ []) (1 ∷ 2 ∷ []) (3 ∷ 4 ∷ 5 ∷ 6 ∷ []) (buildOf 65537 2048 codes schedules lent)
+  -- check: n and the total, or 11 to 21
+  pub check :
+      (words : List ℕ) → ResultOr (codeCount words ∷ total words ∷ []) checkAlone checkValued (checkOf 65537 2048 words)
+  -- look up: found with a schedule from 1 to 999, absent, or 31 to 34 with 0
+  pub lookup : (words : List ℕ) (a : ℕ) → LookupAnswer (lookupOf 65537 2048 words a)
+  -- panel: a schedule from 1 to 999, unknown or 31 to 34 with an index, or 35 and 36
+  pub panel : (words codes : List ℕ) → PanelAnswer (length codes) (panelOf 65537 2048 words codes)
+  -- read back: n, a refusal of the check, or 41
+  pub pairs :
+      (words codes schedules : List ℕ)
+      → ResultOr (codeCount words ∷ []) checkAlone (checkValued ++ (41 ∷ [])) (pairsOf 65537 2048 words codes schedules)
+  -- put in: the new total, a refusal of the check, or 51 to 54
+  pub insert :
+      (words : List ℕ) (code schedule lent : ℕ)
+      → ResultOr (wordsNeeded 65537 (codesOf (withPair code schedule (pairsIn words))) ∷ []) (51 ∷ 52 ∷ checkAlone ++ (53 ∷ []))
+      (checkValued ++ (54 ∷ []))
+      (insertOf 65537 2048 words code schedule lent)
+  -- take out: the new total, a refusal of the check, 51, 55 or 54
+  pub remove :
+      (words : List ℕ) (code lent : ℕ)
+      → ResultOr (wordsNeeded 65537 (codesOf (without code (pairsIn words))) ∷ []) (51 ∷ checkAlone ++ (55 ∷ []))
+      (checkValued ++ (54 ∷ []))
+      (removeOf 65537 2048 words code lent)
+  -- the program that lists: the check's answer, or 61 and 62
+  pub file :
+      (bytes : List ℕ)
+      → ResultOr (codeCount (wordsOf bytes) ∷ total (wordsOf bytes) ∷ []) (61 ∷ 62 ∷ checkAlone) checkValued
+      (fileOf 65537 2048 bytes)
+
+-- Demand 1: a refusal leaves all lent memory as it was. Each operation that is lent memory, by its contract
+pub record Keeping : Type 0 where
+  pub build :
+      (codes schedules words : List ℕ) (answer : Answer) (words′ : List ℕ)
+      → Built 65537 2048 codes schedules words answer words′ → IsRefusal answer → words′ ≡ words
+  pub pairs :
+      (words codes schedules : List ℕ) (answer : Answer) (codes′ schedules′ : List ℕ)
+      → PairsRead 65537 2048 words codes schedules answer codes′ schedules′ → IsRefusal answer
+      → (codes′ ≡ codes) × (schedules′ ≡ schedules)
+  pub insert :
+      (words : List ℕ) (code schedule : ℕ) (second : List ℕ) (answer : Answer) (second′ : List ℕ)
+      → Inserted 65537 2048 words code schedule second answer second′ → IsRefusal answer → second′ ≡ second
+  pub remove :
+      (words : List ℕ) (code : ℕ) (second : List ℕ) (answer : Answer) (second′ : List ℕ)
+      → Removed 65537 2048 words code second answer second′ → IsRefusal answer → second′ ≡ second
+
+-- the same of the C exports: the number 0 is a result with its value and memory, and any other number leaves the memory as it was
+pub record Exporting : Type 0 where
+  pub glass-build :
+      (codes schedules words : List ℕ) (r : Numbered) (words′ : List ℕ)
+      → BuildShown 65537 2048 codes schedules words r words′
+      → FilledOrKept r (wordsNeeded 65537 codes) (tableOf 65537 codes schedules) words words′
+  pub glass-pairs :
+      (words codes schedules : List ℕ) (r : Numbered) (codes′ schedules′ : List ℕ)
+      → PairsShown 65537 2048 words codes schedules r codes′ schedules′
+      → FilledOrKept r (codeCount words) (codesOf (pairsIn words)) codes codes′
+      × FilledOrKept r (codeCount words) (schedulesOf (pairsIn words)) schedules schedules′
+  pub glass-insert :
+      (words : List ℕ) (code schedule : ℕ) (second : List ℕ) (r : Numbered) (second′ : List ℕ)
+      → InsertShown 65537 2048 words code schedule second r second′
+      → let changed = withPair code schedule (pairsIn words) in
+      FilledOrKept r (wordsNeeded 65537 (codesOf changed)) (tableOfPairs 65537 changed) second second′
+  pub glass-remove :
+      (words : List ℕ) (code : ℕ) (second : List ℕ) (r : Numbered) (second′ : List ℕ)
+      → RemoveShown 65537 2048 words code second r second′
+      → let changed = without code (pairsIn words) in
+      FilledOrKept r (wordsNeeded 65537 (codesOf changed)) (tableOfPairs 65537 changed) second second′
 
 -- the check accepts a table
 abbrev pub Accepted : List ℕ → Type 0
@@ -25,10 +116,14 @@ Accepted words = checkOf 65537 2048 words ≡ given (codeCount words ∷ total w
 pub record Reading : Type 0 where
   -- the check accepts exactly the well-formed tables
   pub check-exactly : (words : List ℕ) → Accepted words ↔ WellFormed 65537 2048 words
-  -- an accepted table is read back into long enough arrays
+  -- an accepted table is read back into long enough arrays: n, and its pairs in the first n places
   pub read-back :
-      (words codes schedules : List ℕ) → Accepted words → codeCount words ≤ length codes → codeCount words ≤ length schedules
-      → pairsOf 65537 2048 words codes schedules ≡ given (codeCount words ∷ [])
+      (words codes schedules : List ℕ) (answer : Answer) (codes′ schedules′ : List ℕ)
+      → Accepted words → codeCount words ≤ length codes → codeCount words ≤ length schedules
+      → PairsRead 65537 2048 words codes schedules answer codes′ schedules′
+      → (answer ≡ given (codeCount words ∷ []))
+      × (codes′ ≡ over (codesOf (pairsIn words)) codes)
+      × (schedules′ ≡ over (schedulesOf (pairsIn words)) schedules)
   -- its pairs number n, by strictly rising code
   pub pairs-number : (words : List ℕ) → Accepted words → length (codesOf (pairsIn words)) ≡ codeCount words
   pub pairs-rise :
@@ -38,23 +133,72 @@ pub record Reading : Type 0 where
   pub pairs-exactly :
       (words : List ℕ) → Accepted words → (a s : ℕ)
       → (lookupOf 65537 2048 words a ≡ given (s ∷ [])) ↔ Listed (codesOf (pairsIn words)) (schedulesOf (pairsIn words)) a s
+  -- and every other code from 1 to 65,536 is absent
+  pub found-or-absent :
+      (words : List ℕ) → Accepted words → (a : ℕ) → 1 ≤ a → a ≤ 65536
+      → ((s : ℕ) × (lookupOf 65537 2048 words a ≡ given (s ∷ []))) ⊎ (lookupOf 65537 2048 words a ≡ absent)
   -- of any words at most eight settle the answer to a code: any others of that length that agree there give the same answer
   pub eight-at-most : (words : List ℕ) (a : ℕ) → length (lookedAt 65537 words a) ≤ 8
   pub eight-settle :
       (words other : List ℕ) (a : ℕ) → length other ≡ length words → AgreeAt (lookedAt 65537 words a) words other
       → lookupOf 65537 2048 other a ≡ lookupOf 65537 2048 words a
 
+-- Demand 2, of words that begin with the table of a list: the two-level table of source 000, with the least multipliers
+pub record TwoLevelTable (codes schedules words : List ℕ) : Type 0 where
+  -- as many blocks as codes
+  pub blocks : codeCount words ≡ length codes
+  -- k is the least multiplier that keeps c at most 3n - 2; 1 for the empty list
+  pub k-least :
+      0 < length codes → Least (λ k. leb (cells 65537 k codes + 2) (3 * length codes)) 65537 (multiplier words)
+  pub k-of-none : length codes ≡ 0 → multiplier words ≡ 1
+  -- the blocks follow one another: block j has load × load cells
+  pub first-start : 0 < length codes → blockStart words 0 ≡ 0
+  pub squares :
+      (j : ℕ) → j < length codes
+      → let m = load 65537 (multiplier words) (length codes) j codes in blockEnd words j ≡ blockStart words j + m * m
+  -- c is their sum, and at most 3n - 2
+  pub cells-sum :
+      cellCount words
+      ≡ sum (λ j. let m = load 65537 (multiplier words) (length codes) j codes in m * m) (length codes)
+  pub few-cells : 0 < length codes → cellCount words + 2 ≤ 3 * length codes
+  -- q of every block is the least multiplier that puts no two of its codes together in one of its cells
+  pub q-least :
+      (j : ℕ) → j < length codes
+      → let block = members 65537 (multiplier words) (length codes) j codes in
+      Least (λ q. eqb (together 65537 q (length block * length block) block) 0) 65537 (blockMultiplier words j)
+  -- every listed code stands in its own cell, with its schedule
+  pub own-cell : (x : ℕ) → x < length codes → ownCell 65537 words (getD codes x 0) < cellCount words
+  pub code-there : (x : ℕ) → x < length codes → cellCode words (ownCell 65537 words (getD codes x 0)) ≡ getD codes x 0
+  pub schedule-there :
+      (x : ℕ) → x < length codes → cellSchedule words (ownCell 65537 words (getD codes x 0)) ≡ getD schedules x 0
+  -- and every other cell is empty
+  pub empty-cell :
+      (i : ℕ) → i < cellCount words → ((x : ℕ) → x < length codes → ownCell 65537 words (getD codes x 0) ≡ i → ⊥)
+      → (cellCode words i ≡ 0) × (cellSchedule words i ≡ 0)
+
+-- the words begin with the table of a list
+abbrev pub BeginsWithTable : List ℕ → List ℕ → List ℕ → Type 0
+BeginsWithTable codes schedules words = take (wordsNeeded 65537 codes) words ≡ tableOf 65537 codes schedules
+
 -- Demand 2, of a built table
 pub record TableOfList (codes schedules : List ℕ) : Type 0 where
+  -- it is the two-level table of the list, and the only one
+  pub two-level :
+      (words : List ℕ) → wordsNeeded 65537 codes ≤ length words
+      → BeginsWithTable codes schedules words ↔ TwoLevelTable codes schedules words
+  -- its total is 3 + 2n + 2c
+  pub total-is :
+      (words : List ℕ) → BeginsWithTable codes schedules words
+      → wordsNeeded 65537 codes ≡ 3 + 2 * length codes + 2 * cellCount words
   -- a code from 1 to 65,536 is found with its listed schedule, or absent, whatever words follow the table
   pub lookup-right :
-      (words : List ℕ) → take (wordsNeeded 65537 codes) words ≡ tableOf 65537 codes schedules
+      (words : List ℕ) → BeginsWithTable codes schedules words
       → (a : ℕ) → 1 ≤ a → a ≤ 65536 → lookupOf 65537 2048 words a ≡ rightAnswer codes schedules a
   -- the check accepts it
-  pub accepted : (words : List ℕ) → take (wordsNeeded 65537 codes) words ≡ tableOf 65537 codes schedules → Accepted words
-  -- reading it back gives the list by rising code
+  pub accepted : (words : List ℕ) → BeginsWithTable codes schedules words → Accepted words
+  -- reading it back gives the pairs of the list
   pub reads-back :
-      (words : List ℕ) → take (wordsNeeded 65537 codes) words ≡ tableOf 65537 codes schedules
+      (words : List ℕ) → BeginsWithTable codes schedules words
       → (a s : ℕ) → Listed (codesOf (pairsIn words)) (schedulesOf (pairsIn words)) a s ↔ Listed codes schedules a s
 
 -- the answer to code a is settled by at most eight words of the table that was built
@@ -71,7 +215,7 @@ pub record BuiltFrom (codes schedules words : List ℕ) : Type 0 where
   -- the build succeeds
   pub succeeds : buildOf 65537 2048 codes schedules (length words) ≡ given (wordsNeeded 65537 codes ∷ [])
   -- with the table of demand 2
-  pub table : take (wordsNeeded 65537 codes) (builtWords 65537 2048 codes schedules words) ≡ tableOf 65537 codes schedules
+  pub table : BeginsWithTable codes schedules (builtWords 65537 2048 codes schedules words)
   -- its total is at most 8n - 1 (3)
   pub bound : wordsNeeded 65537 codes ≤ enough (length codes)
   -- nothing after it is changed
@@ -93,3 +237,63 @@ pub record Building : Type 0 where
   pub any-list :
       (codes schedules words : List ℕ) → Valid 65537 2048 codes schedules → enough (length codes) ≤ length words
       → BuiltFrom codes schedules words
+
+-- Put in, take out: what an edit with this changed list answers, and leaves in the second buffer
+pub record Rebuilds (changed : List Pair) (second : List ℕ) (answer : Answer) (second′ : List ℕ) : Type 0 where
+  -- the changed list is a valid list
+  pub valid : Valid 65537 2048 (codesOf changed) (schedulesOf changed)
+  -- the answer is the build's answer on it, with 6 read as 54
+  pub answers : answer ≡ readAs 6 54 (buildOf 65537 2048 (codesOf changed) (schedulesOf changed) (length second))
+  -- the second buffer is what the build makes of it
+  pub second-at-exit : second′ ≡ builtWords 65537 2048 (codesOf changed) (schedulesOf changed) second
+  -- and of every other list with the same pairs
+  pub any-list :
+      (codes schedules : List ℕ) → Valid 65537 2048 codes schedules
+      → SamePairs (codesOf changed) (schedulesOf changed) codes schedules
+      → (answer ≡ readAs 6 54 (buildOf 65537 2048 codes schedules (length second)))
+      × (second′ ≡ builtWords 65537 2048 codes schedules second)
+
+-- none of 51, 52, the check's refusals and 53 holds
+pub record MayPutIn (words : List ℕ) (code schedule : ℕ) : Type 0 where
+  pub code-range : (1 ≤ code) × (code ≤ 65536)
+  pub schedule-range : (1 ≤ schedule) × (schedule ≤ 999)
+  pub accepted : Accepted words
+  pub room : (codeCount words < 2048) ⊎ ((s : ℕ) × (lookupOf 65537 2048 words code ≡ given (s ∷ [])))
+
+-- none of 51, the check's refusals and 55 holds
+pub record MayTakeOut (words : List ℕ) (code : ℕ) : Type 0 where
+  pub accepted : Accepted words
+  pub there : (s : ℕ) × (lookupOf 65537 2048 words code ≡ given (s ∷ []))
+
+pub record Editing : Type 0 where
+  -- the changed list of put in: the new pair, and every pair of another code that the old table has
+  pub put-in-list :
+      (words : List ℕ) → Accepted words → (code schedule a s : ℕ)
+      → Listed (codesOf (withPair code schedule (pairsIn words))) (schedulesOf (withPair code schedule (pairsIn words))) a s
+      ↔ (((a ≡ code) × (s ≡ schedule)) ⊎ ((a ≡ code → ⊥) × (lookupOf 65537 2048 words a ≡ given (s ∷ []))))
+  -- the changed list of take out: every pair of another code that the old table has
+  pub take-out-list :
+      (words : List ℕ) → Accepted words → (code a s : ℕ)
+      → Listed (codesOf (without code (pairsIn words))) (schedulesOf (without code (pairsIn words))) a s
+      ↔ ((a ≡ code → ⊥) × (lookupOf 65537 2048 words a ≡ given (s ∷ [])))
+  -- put in, where none of 51, 52, the check's refusals and 53 holds
+  pub put-in :
+      (words : List ℕ) (code schedule : ℕ) (second : List ℕ) (answer : Answer) (second′ : List ℕ)
+      → MayPutIn words code schedule → Inserted 65537 2048 words code schedule second answer second′
+      → Rebuilds (withPair code schedule (pairsIn words)) second answer second′
+  -- take out, where none of 51, the check's refusals and 55 holds
+  pub take-out :
+      (words : List ℕ) (code : ℕ) (second : List ℕ) (answer : Answer) (second′ : List ℕ)
+      → MayTakeOut words code → Removed 65537 2048 words code second answer second′
+      → Rebuilds (without code (pairsIn words)) second answer second′
+  -- in the new table the code has the new schedule, or is absent, and every other code is found as in the old one
+  pub put-in-lookup :
+      (words : List ℕ) (code schedule : ℕ) (second : List ℕ) (total : ℕ) (second′ : List ℕ)
+      → MayPutIn words code schedule → Inserted 65537 2048 words code schedule second (given (total ∷ [])) second′
+      → (a : ℕ) → 1 ≤ a → a ≤ 65536
+      → lookupOf 65537 2048 second′ a ≡ cond (eqb a code) (given (schedule ∷ [])) (lookupOf 65537 2048 words a)
+  pub take-out-lookup :
+      (words : List ℕ) (code : ℕ) (second : List ℕ) (total : ℕ) (second′ : List ℕ)
+      → MayTakeOut words code → Removed 65537 2048 words code second (given (total ∷ [])) second′
+      → (a : ℕ) → 1 ≤ a → a ≤ 65536
+      → lookupOf 65537 2048 second′ a ≡ cond (eqb a code) absent (lookupOf 65537 2048 words a)

@@ -94,6 +94,21 @@ module _ (code : ℕ) where
             (List·Memᴰ·cases-cons (rw (without-later x xs ne) at m))
       ]
 
+  pub mem-without : {r : Pair} (xs : List Pair) → List·Memᴰ r xs → (r .code ≡ code → ⊥) → List·Memᴰ r (without code xs)
+  unfolding without pairsWhere
+  mem-without [] m other = absurd (List·Memᴰ·not-nil m)
+  mem-without {r} (x ∷ xs) m other =
+      ⊎-elim
+      (λ same.
+      let e : r .code ≡ x .code = ap (λ (y : Pair). y .code) same in
+      rw (without-later x xs (λ here. other (e ∙ here))) (List·Memᴰ·head same))
+      (λ t.
+      elim (ℕ-discrete (x .code) code) [
+        | yes e ↦ rw (without-here x xs e) (mem-without xs t other)
+        | no ne ↦ rw (without-later x xs ne) (List·Memᴰ·tail (mem-without xs t other))
+      ])
+      (List·Memᴰ·cases-cons m)
+
   -- a code of what is left is a code of the list, and another
   without-code : {a : ℕ} (xs : List Pair) → List·Memᴰ a (codesOf (without code xs)) → List·Memᴰ a (codesOf xs) × (a ≡ code → ⊥)
   without-code {a} xs m =

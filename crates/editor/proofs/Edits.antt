@@ -7,11 +7,11 @@ use native.Mathlib.Omega.{arith}
 use mathlib.Core.Bool.{not, cond, _&&_}
 use mathlib.Core.List.{List, _∷_, map, List·Memᴰ, List·Memᴰ·cases-cons, Memᴰ·of-map}
 use mathlib.Core.Logic.{⊎-elim}
-use mathlib.Core.Path.{_≡_, sym, ap, _∙_}
+use mathlib.Core.Path.{_≡_, refl, sym, ap, _∙_}
 use borrow.Author.Tests.{lt-ltb, le-ltb, eq-eqb, ne-eqb}
 use lib.Dec.{eqb, ltb}
 use lib.ListN.{length, getD, take, length-map}
-use lib.Seq.{take-at}
+use lib.Seq.{take-at, take-length}
 use Rattle.hash.specs.Hash.{Codes}
 use Rattle.hash.proofs.Members.{mem-at}
 use Rattle.table.specs.Answers.{Answer, refused, firstOf, over}
@@ -103,17 +103,36 @@ indexed {words = words} {codes} {schedules} n code i f count w e =
       index = rw (e, front) (first-is (length (codesOf (pairsIn words))) (λ (j : ℕ). eqb (getD (codesOf (pairsIn words)) j 0) code));
     }
 
+-- the pairs' own lists
+pub indexed-pairs :
+    {p limit : ℕ} {words : List ℕ} (code : ℕ) → WellFormed p limit words
+    → let codes = codesOf (pairsIn words) in
+    Indexed p limit words codes (schedulesOf (pairsIn words)) (codeCount words) code
+    (firstOf (length codes) (λ (j : ℕ). eqb (getD codes j 0) code))
+indexed-pairs {words = words} code f =
+    let codes : List ℕ = codesOf (pairsIn words) in
+    record {
+      accepted = f;
+      count = refl;
+      codes-front = take-all codes (codeCount words) (codes-long (pairsIn words) ∙ pairs-length f);
+      schedules-front = take-all (schedulesOf (pairsIn words)) (codeCount words) (schedules-long (pairsIn words) ∙ pairs-length f);
+      index = first-is (length codes) (λ (j : ℕ). eqb (getD codes j 0) code);
+    }
+  where
+    take-all : (list : List ℕ) (n : ℕ) → length list ≡ n → take n list ≡ list
+    take-all list n e = ap (λ (m : ℕ). take m list) (sym e) ∙ take-length list
+
 module _ {p limit : ℕ} {words codes schedules : List ℕ} {n code i : ℕ} (x : Indexed p limit words codes schedules n code i) where
   pairs-long : length (pairsIn words) ≡ n
   pairs-long = pairs-length (x .accepted) ∙ sym (x .count)
 
-  few-pairs : n ≤ limit
+  pub few-pairs : n ≤ limit
   few-pairs = omega (arith, x .accepted .few-codes, x .count)
 
   pub index-le : i ≤ n
   index-le = omega (arith, x .index .within, codes-long (pairsIn words), pairs-long)
 
-  present-is : present words code ≡ ltb i n
+  pub present-is : present words code ≡ ltb i n
   unfolding present
   present-is = among-index code (codesOf (pairsIn words)) i (x .index) ∙ ap (ltb i) (codes-long (pairsIn words) ∙ pairs-long)
 
@@ -134,7 +153,7 @@ module _ {p limit : ℕ} {words codes schedules : List ℕ} {n code i : ℕ} (x 
   -- ---- put in
 
   -- 53: the code is new and the table is full
-  full-is : not (present words code) && eqb (codeCount words) limit ≡ eqb i limit
+  pub full-is : not (present words code) && eqb (codeCount words) limit ≡ eqb i limit
   full-is =
       elim (decLt i n) [
         | yes l ↦ rw (present-is, lt-ltb i n l, ne-eqb i limit (λ e. omega (arith, few-pairs)))
@@ -177,6 +196,22 @@ module _ {p limit : ℕ} {words codes schedules : List ℕ} {n code i : ℕ} (x 
           | no g ↦ omega (arith, room-left, index-le, left-all (omega arith))
         ]
 
+    -- the pairs with the code put in
+    pub with-valid :
+        (schedule : ℕ) → InRange p code schedule
+        → Valid p limit (codesOf (withPair code schedule (pairsIn words))) (schedulesOf (withPair code schedule (pairsIn words)))
+    unfolding withPair
+    with-valid schedule range =
+        pairs-valid (withPair code schedule (pairsIn words)) few-with
+        (with-codes code schedule (pairsIn words) (range .code-from-one) (range .code-below) (pairs-codes (x .accepted)))
+        (λ r h.
+        ⊎-elim
+        (λ same.
+        let e : r .schedule ≡ schedule = ap (λ (y : Pair). y .schedule) same in
+        (omega (arith, range .schedule-from-one), omega (arith, range .schedule-to-999)))
+        (λ t. pair-schedule (x .accepted) (without-mem code (pairsIn words) t .0))
+        (List·Memᴰ·cases-cons h))
+
     -- the first m elements of the lists after the pair is put first
     module _ (schedule m : ℕ) (codes′ schedules′ : List ℕ) (size : m ≡ cond (eqb i n) (n + 1) n)
         (put-code : codes′ ≡ code ∷ omit i codes) (put-schedule : schedules′ ≡ schedule ∷ omit i schedules)
@@ -193,18 +228,7 @@ module _ {p limit : ℕ} {words codes schedules : List ℕ} {n code i : ℕ} (x 
         put-schedules = rw (size, put-schedule) (put-list (λ (r : Pair). r .schedule) schedule schedules (x .schedules-front))
 
         pub put-valid : InRange p code schedule → Valid p limit (take m codes′) (take m schedules′)
-        unfolding withPair
-        put-valid range =
-            rw (put-codes, put-schedules)
-            (pairs-valid (withPair code schedule (pairsIn words)) few-with
-            (with-codes code schedule (pairsIn words) (range .code-from-one) (range .code-below) (pairs-codes (x .accepted)))
-            (λ r h.
-            ⊎-elim
-            (λ same.
-            let e : r .schedule ≡ schedule = ap (λ (y : Pair). y .schedule) same in
-            (omega (arith, range .schedule-from-one), omega (arith, range .schedule-to-999)))
-            (λ t. pair-schedule (x .accepted) (without-mem code (pairsIn words) t .0))
-            (List·Memᴰ·cases-cons h)))
+        put-valid range = rw (put-codes, put-schedules) (with-valid schedule range)
 
         pub put-outcome :
             {second second′ : List ℕ} {answer : Answer} → Rebuilding p (take m codes′) (take m schedules′) second answer second′
@@ -224,6 +248,13 @@ module _ {p limit : ℕ} {words codes schedules : List ℕ} {n code i : ℕ} (x 
     pub index-lt : i < n
     index-lt = omega (arith, index-le)
 
+    -- the pairs without the code
+    pub left-valid : Valid p limit (codesOf (without code (pairsIn words))) (schedulesOf (without code (pairsIn words)))
+    left-valid =
+        pairs-valid (without code (pairsIn words)) (omega (arith, few-pairs, left-fewer index-lt))
+        (without-codes code (pairsIn words) (pairs-codes (x .accepted)))
+        (λ r h. pair-schedule (x .accepted) (without-mem code (pairsIn words) h .0))
+
     -- the first n - 1 elements of the lists after the pair is left out
     module _ (codes′ schedules′ : List ℕ) (out-code : take (n - 1) codes′ ≡ omit i (take n codes))
         (out-schedule : take (n - 1) schedules′ ≡ omit i (take n schedules))
@@ -235,11 +266,7 @@ module _ {p limit : ℕ} {words codes schedules : List ℕ} {n code i : ℕ} (x 
         out-schedules = out-schedule ∙ rw (x .schedules-front) (left-list (λ (r : Pair). r .schedule))
 
         pub out-valid : Valid p limit (take (n - 1) codes′) (take (n - 1) schedules′)
-        out-valid =
-            rw (out-codes, out-schedules)
-            (pairs-valid (without code (pairsIn words)) (omega (arith, few-pairs, left-fewer index-lt))
-            (without-codes code (pairsIn words) (pairs-codes (x .accepted)))
-            (λ r h. pair-schedule (x .accepted) (without-mem code (pairsIn words) h .0)))
+        out-valid = rw (out-codes, out-schedules) left-valid
 
         pub out-outcome :
             {second second′ : List ℕ} {answer : Answer} → Rebuilding p (take (n - 1) codes′) (take (n - 1) schedules′) second answer second′

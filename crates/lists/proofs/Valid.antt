@@ -20,7 +20,7 @@ use Rattle.lists.specs.Valid.{Valid}
 
 -- ---- the refusals of a list
 
-abbrev tests : ℕ → ℕ → List ℕ → List ℕ → List Refusal
+abbrev pub tests : ℕ → ℕ → List ℕ → List ℕ → List Refusal
 tests p limit codes schedules =
     record { fails = not (eqb (length codes) (length schedules)); number = 1; value = 0 }
     ∷ record { fails = ltb limit (length codes); number = 2; value = 0 }
@@ -30,7 +30,7 @@ tests p limit codes schedules =
     ∷ []
 
 -- what follows refusals follows their own answer
-abbrev thenOr : List Refusal → Answer → Answer
+abbrev pub thenOr : List Refusal → Answer → Answer
 thenOr [] rest = rest
 thenOr (r ∷ refusals) rest = refuse (r .fails) (r .number) (r .value) (thenOr refusals rest)
 

@@ -1,0 +1,283 @@
+-- Which answers each operation gives: refusals stand one below the other, so one law over a list of tests serves every operation.
+use Prim.Native.Nat.{ℕ, suc, max, _+_, _-_, _%_, _<_, _≤_}
+use native.Mathlib.Nat.{max-le, le-max-right}
+use native.Mathlib.Omega.{arith}
+use mathlib.Core.Bool.{Bool, true, false, cond, not, _&&_, _||_, true≢false}
+use mathlib.Core.List.{List, [], _∷_, _++_}
+use mathlib.Core.Logic.{_⊎_, inl, inr}
+use mathlib.Core.Path.{_≡_, refl, sym, ap, _∙_}
+use borrow.Author.Tests.{eqb-true, eqb-false}
+use lib.Dec.{eqb, ltb, lit≤}
+use lib.ListN.{length}
+use Rattle.table.specs.Answers.{Answer, given, absent, unknown, refused, refuse, orRefused, outside}
+use Rattle.table.specs.Pairs.{Pair, among, codesOf}
+use Rattle.table.specs.Words.{codeCount, cellCount, total, blockStart, blockEnd, blockMultiplier, cellCode, cellSchedule, blockOf, cellIn}
+use Rattle.table.specs.TwoLevel.{wordsNeeded}
+use Rattle.table.specs.Lookup.{badSizes, inCell, inBlock, lookupOf}
+use Rattle.table.proofs.Laws.{within}
+use Rattle.table.proofs.Refusals.{Refusal}
+use Rattle.panel.specs.Panel.{walkOf, panelOf}
+use Rattle.audit.specs.Check.{checkOf}
+use Rattle.audit.proofs.WellFormed as Check
+use Rattle.reader.specs.Pairs.{pairsIn, pairsOf}
+use Rattle.lists.specs.List.{listOr}
+use Rattle.lists.proofs.Valid.{tests, thenOr}
+use Rattle.builder.specs.Build.{buildOf}
+use Rattle.editor.specs.Edit.{without, withPair, present, rebuilt, insertOf, removeOf}
+use Rattle.files.specs.Bytes.{wordsOf}
+use Rattle.listing.specs.Listing.{fileOf}
+use Rattle.demands.specs.Answered.{ResultOr, LookupAnswer, PanelAnswer}
+use Rattle.demands.specs.Theorems.{checkAlone, checkValued, Answering}
+
+-- ---- results and refusals
+
+-- the number of each test is one of those that come with a value, or of those that come with 0, and does
+abbrev counted : List ℕ → List ℕ → List Refusal → Bool
+counted alone valued [] = true
+counted alone valued (r ∷ rs) = (among (r .number) valued || (among (r .number) alone && eqb (r .value) 0)) && counted alone valued rs
+
+and-true : (a b : Bool) → a && b ≡ true → (a ≡ true) × (b ≡ true)
+and-true true b e = (refl, e)
+and-true false b e = absurd (true≢false (sym e))
+
+or-true : (a b : Bool) → a || b ≡ true → (b ≡ true) ⊎ (a ≡ true)
+or-true true b e = inr refl
+or-true false b e = inl e
+
+module _ (result alone valued : List ℕ) where
+  -- one test before an answer
+  test-first :
+      (fails : Bool) (number value : ℕ) (rest : Answer) → among number valued || (among number alone && eqb value 0) ≡ true
+      → ResultOr result alone valued rest → ResultOr result alone valued (refuse fails number value rest)
+  unfolding ResultOr
+  test-first true number value rest one r =
+      elim (or-true (among number valued) (among number alone && eqb value 0) one) [
+        | inl zero-one ↦
+            let (there, none) = and-true (among number alone) (eqb value 0) zero-one in
+            inl (there, eqb-true value 0 none)
+        | inr there ↦ inr there
+      ]
+  test-first false number value rest one r = r
+
+  -- tests before an answer
+  tests-first :
+      (rs : List Refusal) (rest : Answer) → counted alone valued rs ≡ true → ResultOr result alone valued rest
+      → ResultOr result alone valued (thenOr rs rest)
+  tests-first [] rest all r = r
+  tests-first (t ∷ rs) rest all r =
+      let (one, more) = and-true _ _ all in
+      test-first (t .fails) (t .number) (t .value) (thenOr rs rest) one (tests-first rs rest more r)
+
+  done : ResultOr result alone valued (given result)
+  unfolding ResultOr
+  done = refl
+
+  -- the refusals of an earlier answer before another
+  refused-first :
+      (values : List ℕ) (earlier rest : Answer) → ResultOr values alone valued earlier → ResultOr result alone valued rest
+      → ResultOr result alone valued (orRefused earlier rest)
+  unfolding ResultOr
+  refused-first values (given vs) rest e r = r
+  refused-first values absent rest e r = absurd e
+  refused-first values (unknown i) rest e r = absurd e
+  refused-first values (refused number value) rest e r = e
+
+-- the check, with any numbers beside its own
+check-answers :
+    (alone valued : List ℕ) (p limit : ℕ) (words : List ℕ) → counted alone valued (Check.tests p limit words) ≡ true
+    → ResultOr (codeCount words ∷ total words ∷ []) alone valued (checkOf p limit words)
+unfolding checkOf Check.tests Check.first-refusal
+check-answers alone valued p limit words all =
+    tests-first (codeCount words ∷ total words ∷ []) alone valued (Check.tests p limit words) (given (codeCount words ∷ total words ∷ [])) all (done _ alone valued)
+
+-- the refusals of a check before another answer
+checked-first :
+    (result alone valued : List ℕ) (p limit : ℕ) (words : List ℕ) (rest : Answer)
+    → counted alone valued (Check.tests p limit words) ≡ true → ResultOr result alone valued rest
+    → ResultOr result alone valued (orRefused (checkOf p limit words) rest)
+checked-first result alone valued p limit words rest all r =
+    refused-first result alone valued _ (checkOf p limit words) rest (check-answers alone valued p limit words all) r
+
+module _ (p limit : ℕ) where
+  build-answers :
+      (codes schedules : List ℕ) (lent : ℕ)
+      → ResultOr (wordsNeeded p codes ∷ []) (1 ∷ 2 ∷ []) (3 ∷ 4 ∷ 5 ∷ 6 ∷ []) (buildOf p limit codes schedules lent)
+  unfolding buildOf listOr among
+  build-answers codes schedules lent =
+      let result = wordsNeeded p codes ∷ [] in
+      tests-first result (1 ∷ 2 ∷ []) (3 ∷ 4 ∷ 5 ∷ 6 ∷ []) (tests p limit codes schedules) _ refl
+      (test-first result (1 ∷ 2 ∷ []) (3 ∷ 4 ∷ 5 ∷ 6 ∷ []) (ltb lent (wordsNeeded p codes)) 6 (wordsNeeded p codes) (given result) refl
+      (done result _ _))
+
+  pairs-answers :
+      (words codes schedules : List ℕ)
+      → ResultOr (codeCount words ∷ []) checkAlone (checkValued ++ (41 ∷ [])) (pairsOf p limit words codes schedules)
+  unfolding pairsOf among Check.tests Check.first-refusal
+  pairs-answers words codes schedules =
+      let result = codeCount words ∷ [] in
+      checked-first result checkAlone (checkValued ++ (41 ∷ [])) p limit words _ refl
+      (test-first result checkAlone (checkValued ++ (41 ∷ []))
+      (ltb (length codes) (codeCount words) || ltb (length schedules) (codeCount words))
+      41 (codeCount words) (given result) refl (done result _ _))
+
+  -- an edit from 54 on
+  rebuilt-answers :
+      (alone valued : List ℕ) (pairs : List Pair) (lent : ℕ) → among 54 valued ≡ true
+      → ResultOr (wordsNeeded p (codesOf pairs) ∷ []) alone valued (rebuilt p pairs lent)
+  unfolding rebuilt
+  rebuilt-answers alone valued pairs lent one =
+      let result = wordsNeeded p (codesOf pairs) ∷ [] in
+      test-first result alone valued (ltb lent (wordsNeeded p (codesOf pairs))) 54 (wordsNeeded p (codesOf pairs)) (given result) (rw one)
+      (done result alone valued)
+
+  insert-answers :
+      (words : List ℕ) (code schedule lent : ℕ)
+      → ResultOr (wordsNeeded p (codesOf (withPair code schedule (pairsIn words))) ∷ []) (51 ∷ 52 ∷ checkAlone ++ (53 ∷ []))
+      (checkValued ++ (54 ∷ []))
+      (insertOf p limit words code schedule lent)
+  unfolding insertOf among Check.tests Check.first-refusal
+  insert-answers words code schedule lent =
+      let result = wordsNeeded p (codesOf (withPair code schedule (pairsIn words))) ∷ [] in
+      let alone = 51 ∷ 52 ∷ checkAlone ++ (53 ∷ []) in
+      let valued = checkValued ++ (54 ∷ []) in
+      test-first result alone valued (outside 1 (p - 1) code) 51 0 _ refl
+      (test-first result alone valued (outside 1 999 schedule) 52 0 _ refl
+      (checked-first result alone valued p limit words _ refl
+      (test-first result alone valued (not (present words code) && eqb (codeCount words) limit) 53 0 _ refl
+      (rebuilt-answers alone valued (withPair code schedule (pairsIn words)) lent refl))))
+
+  remove-answers :
+      (words : List ℕ) (code lent : ℕ)
+      → ResultOr (wordsNeeded p (codesOf (without code (pairsIn words))) ∷ []) (51 ∷ checkAlone ++ (55 ∷ []))
+      (checkValued ++ (54 ∷ []))
+      (removeOf p limit words code lent)
+  unfolding removeOf among Check.tests Check.first-refusal
+  remove-answers words code lent =
+      let result = wordsNeeded p (codesOf (without code (pairsIn words))) ∷ [] in
+      let alone = 51 ∷ checkAlone ++ (55 ∷ []) in
+      let valued = checkValued ++ (54 ∷ []) in
+      test-first result alone valued (outside 1 (p - 1) code) 51 0 _ refl
+      (checked-first result alone valued p limit words _ refl
+      (test-first result alone valued (not (present words code)) 55 0 _ refl
+      (rebuilt-answers alone valued (without code (pairsIn words)) lent refl)))
+
+  file-answers :
+      (bytes : List ℕ)
+      → ResultOr (codeCount (wordsOf bytes) ∷ total (wordsOf bytes) ∷ []) (61 ∷ 62 ∷ checkAlone) checkValued (fileOf p limit bytes)
+  unfolding fileOf among Check.tests Check.first-refusal
+  file-answers bytes =
+      let result = codeCount (wordsOf bytes) ∷ total (wordsOf bytes) ∷ [] in
+      test-first result (61 ∷ 62 ∷ checkAlone) checkValued (ltb 65536 (length bytes)) 61 0 _ refl
+      (test-first result (61 ∷ 62 ∷ checkAlone) checkValued (not (eqb (length bytes % 4) 0)) 62 0 _ refl
+      (check-answers (61 ∷ 62 ∷ checkAlone) checkValued p limit (wordsOf bytes) refl))
+
+-- ---- lookups
+
+-- one test of a lookup before an answer
+lookup-test :
+    (fails : Bool) (number : ℕ) (rest : Answer) → 31 ≤ number → number ≤ 34 → (fails ≡ false → LookupAnswer rest)
+    → LookupAnswer (refuse fails number 0 rest)
+unfolding LookupAnswer
+lookup-test true number rest from to r = (from, to, refl)
+lookup-test false number rest from to r = r refl
+
+-- absent, or an answer
+or-absent : (b : Bool) (rest : Answer) → LookupAnswer rest → LookupAnswer (cond b absent rest)
+unfolding LookupAnswer
+or-absent true rest r = tt
+or-absent false rest r = r
+
+absent-or : (b : Bool) (rest : Answer) → LookupAnswer rest → LookupAnswer (cond b rest absent)
+unfolding LookupAnswer
+absent-or true rest r = r
+absent-or false rest r = tt
+
+found : (s : ℕ) → outside 1 999 s ≡ false → LookupAnswer (given (s ∷ []))
+unfolding LookupAnswer
+found s inside = let r = within 1 999 s inside in (s, refl, r .0, r .1)
+
+module _ (p limit : ℕ) (words : List ℕ) (a : ℕ) where
+  cell-answers : (i : ℕ) → LookupAnswer (inCell words a i)
+  unfolding inCell
+  cell-answers i =
+      absent-or (eqb (cellCode words i) a) _
+      (lookup-test (outside 1 999 (cellSchedule words i)) 34 (given (cellSchedule words i ∷ [])) (lit≤ tt) (lit≤ tt) (found (cellSchedule words i)))
+
+  block-answers : (j : ℕ) → LookupAnswer (inBlock p words a j)
+  unfolding inBlock
+  block-answers j =
+      lookup-test (ltb (blockEnd words j) (blockStart words j)) 34 _ (lit≤ tt) (lit≤ tt)
+      (λ _.
+      lookup-test (ltb (cellCount words) (blockEnd words j)) 34 _ (lit≤ tt) (lit≤ tt)
+      (λ _.
+      or-absent (eqb (blockStart words j) (blockEnd words j)) _
+      (lookup-test (outside 1 (p - 1) (blockMultiplier words j)) 34 _ (lit≤ tt) (lit≤ tt) (λ _. cell-answers (cellIn p words j a)))))
+
+  lookup-answers : LookupAnswer (lookupOf p limit words a)
+  unfolding lookupOf
+  lookup-answers =
+      lookup-test (outside 1 (p - 1) a) 31 _ (lit≤ tt) (lit≤ tt)
+      (λ _.
+      lookup-test (ltb (length words) 3) 32 _ (lit≤ tt) (lit≤ tt)
+      (λ _.
+      lookup-test (badSizes p limit words) 33 _ (lit≤ tt) (lit≤ tt)
+      (λ _. or-absent (eqb (codeCount words) 0) _ (block-answers (blockOf p words a)))))
+
+-- ---- panels
+
+module _ (p limit : ℕ) (words : List ℕ) (n : ℕ) where
+  -- the code with index i, and what the codes after it answer
+  walk-one :
+      (a : ℕ) (codes : List ℕ) (i largest : ℕ) → i < n → largest ≤ 999
+      → ((s : ℕ) → 1 ≤ s → s ≤ 999 → PanelAnswer n (walkOf p limit words codes (suc i) (max largest s)))
+      → (answer : Answer) → lookupOf p limit words a ≡ answer → LookupAnswer answer
+      → PanelAnswer n (walkOf p limit words (a ∷ codes) i largest)
+  unfolding walkOf PanelAnswer LookupAnswer
+  walk-one a codes i largest at low later (given values) e (s, one, from, to) = rw (e ∙ ap given one, walkOf) (later s from to)
+  walk-one a codes i largest at low later absent e r = rw (e, walkOf, PanelAnswer) at
+  walk-one a codes i largest at low later (unknown j) e r = absurd r
+  walk-one a codes i largest at low later (refused number value) e (from, to, none) = rw (e, walkOf, PanelAnswer) (inl (from, to, at))
+
+  -- from index i on, with a schedule before it or a code to come
+  walk-answers :
+      (codes : List ℕ) (i largest : ℕ) → i + length codes ≡ n → largest ≤ 999 → 1 ≤ largest + length codes
+      → PanelAnswer n (walkOf p limit words codes i largest)
+  unfolding walkOf PanelAnswer
+  walk-answers [] i largest at low some = (largest, refl, omega arith, low)
+  walk-answers (a ∷ codes) i largest at low some =
+      walk-one a codes i largest (omega arith) low
+      (λ s from to. walk-answers codes (suc i) (max largest s) (omega arith) (max-le low to) (omega (arith, le-max-right largest s)))
+      (lookupOf p limit words a)
+      refl
+      (lookup-answers p limit words a)
+
+-- 35 or 36 before an answer
+panel-test :
+    (n : ℕ) (fails : Bool) (number : ℕ) (rest : Answer) → 35 ≤ number → number ≤ 36 → (fails ≡ false → PanelAnswer n rest)
+    → PanelAnswer n (refuse fails number 0 rest)
+unfolding PanelAnswer
+panel-test n true number rest from to r = inr (from, to, refl)
+panel-test n false number rest from to r = r refl
+
+panel-answers : (p limit : ℕ) (words codes : List ℕ) → PanelAnswer (length codes) (panelOf p limit words codes)
+unfolding panelOf
+panel-answers p limit words codes =
+    panel-test (length codes) (eqb (length codes) 0) 35 _ (lit≤ tt) (lit≤ tt)
+    (λ some.
+    let codes-there : length codes ≡ 0 → ⊥ = eqb-false (length codes) 0 some in
+    panel-test (length codes) (ltb 64 (length codes)) 36 _ (lit≤ tt) (lit≤ tt)
+    (λ few. walk-answers p limit words (length codes) codes 0 0 (omega arith) (omega arith) (omega arith)))
+
+pub answering : Answering
+unfolding among Check.tests Check.first-refusal
+answering =
+    record {
+      build = build-answers 65537 2048;
+      check = λ words. check-answers checkAlone checkValued 65537 2048 words refl;
+      lookup = lookup-answers 65537 2048;
+      panel = panel-answers 65537 2048;
+      pairs = pairs-answers 65537 2048;
+      insert = insert-answers 65537 2048;
+      remove = remove-answers 65537 2048;
+      file = file-answers 65537 2048;
+    }
