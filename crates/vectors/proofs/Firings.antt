@@ -1,26 +1,85 @@
--- P1 to P12: the checker computes each from the definitions.
-use mathlib.Core.Path.{refl}
+-- P1 to P12. The checker computes each list's table and that none of 1 to 5 refuses it, once; what a build of it answers and leaves
+-- follows for any lent words. The other cases are computed as they stand.
+use Prim.Native.Nat.{ℕ, _≤_}
+use mathlib.Core.List.{List, [], _∷_, _++_}
+use mathlib.Core.Path.{_≡_, refl, sym, ap, _∙_}
+use lib.ListN.{length, drop}
+use borrow.Author.Tests.{le-ltb}
 use Rattle.hash.specs.Hash.{hashOf, load, members, together, sum, cells, leastFrom, least}
-use Rattle.table.specs.Answers.{firstOf}
+use Rattle.table.specs.Answers.{Answer, given, refused, firstOf, orRefused, intoRoom, filled}
 use Rattle.table.specs.Words.{blockOf, cellIn, ownCell}
 use Rattle.table.specs.TwoLevel.{tabulate, blocksMultiplier, cellsMultiplier, startOf, frontWith, frontOf, heldAt, tableWith, cellsOf, wordsNeeded, tableOf}
 use Rattle.table.specs.Lookup.{badSizes, inCell, inBlock, lookupOf}
-use Rattle.panel.specs.Panel.{walkOf, panelOf}
 use Rattle.table.specs.Pairs.{paired, valueWhere, among}
+use Rattle.table.proofs.Contents.{table-length}
+use Rattle.panel.specs.Panel.{walkOf, panelOf}
 use Rattle.lists.specs.List.{repeated, badCode, badSchedule, listOr}
-use Rattle.builder.specs.Build.{buildOf}
-use Rattle.vectors.specs.Firings.{Firings}
+use Rattle.lists.proofs.Valid.{list-first}
+use Rattle.builder.specs.Build.{buildOf, builtWords}
+use Rattle.vectors.specs.Firings.{Gives, Refuses, Firings, codes3, schedules3, table3}
+
+-- ---- a build, from what 1 to 5 say of the list and from its table
+
+-- the refusals of the list, and then the room
+list-decides :
+    (codes schedules : List ℕ) (r : Answer) → listOr 65537 2048 codes schedules (given []) ≡ r
+    → (lent : ℕ) → buildOf 65537 2048 codes schedules lent ≡ orRefused r (intoRoom 6 (wordsNeeded 65537 codes) lent)
+unfolding buildOf
+list-decides codes schedules r listed lent =
+    list-first 65537 2048 codes schedules (intoRoom 6 (wordsNeeded 65537 codes) lent)
+    ∙ ap (λ (x : Answer). orRefused x (intoRoom 6 (wordsNeeded 65537 codes) lent)) listed
+
+refuses :
+    (codes schedules : List ℕ) (lent number value : ℕ) → buildOf 65537 2048 codes schedules lent ≡ refused number value
+    → Refuses codes schedules lent number value
+unfolding builtWords
+refuses codes schedules lent number value e =
+    record {
+      answers = e;
+      words-kept = λ words l.
+          ap (λ (r : Answer). filled r (tableOf 65537 codes schedules) words)
+          (ap (buildOf 65537 2048 codes schedules) l ∙ e);
+    }
+
+module _
+    (codes schedules table : List ℕ)
+    (listed : listOr 65537 2048 codes schedules (given []) ≡ given [])
+    (tabled : tableOf 65537 codes schedules ≡ table)
+  where
+    -- the room decides
+    into-room : (lent : ℕ) → buildOf 65537 2048 codes schedules lent ≡ intoRoom 6 (length table) lent
+    into-room lent =
+        list-decides codes schedules (given []) listed lent
+        ∙ ap (λ (n : ℕ). intoRoom 6 n lent) (sym (table-length 65537 codes schedules) ∙ ap length tabled)
+
+    in-enough : (lent : ℕ) → length table ≤ lent → buildOf 65537 2048 codes schedules lent ≡ given (length table ∷ [])
+    in-enough lent h = into-room lent ∙ rw (le-ltb lent (length table) h)
+
+    gives : Gives codes schedules table
+    unfolding builtWords
+    gives =
+        record {
+          table-is = tabled;
+          answers = in-enough;
+          words-left = λ words h.
+              ap (λ (r : Answer). filled r (tableOf 65537 codes schedules) words) (in-enough (length words) h)
+              ∙ ap (λ (t : List ℕ). t ++ drop (length t) words) tabled;
+        }
+
+-- ---- the cases
 
 pub firings : Firings
-unfolding hashOf load members together sum cells leastFrom least firstOf blockOf cellIn ownCell tabulate blocksMultiplier cellsMultiplier startOf frontWith frontOf paired valueWhere heldAt tableWith cellsOf wordsNeeded tableOf badSizes inCell inBlock lookupOf walkOf panelOf among badCode badSchedule repeated listOr buildOf
+unfolding hashOf load members together sum cells leastFrom least firstOf blockOf cellIn ownCell tabulate blocksMultiplier cellsMultiplier startOf frontWith frontOf paired valueWhere heldAt tableWith cellsOf tableOf badSizes inCell inBlock lookupOf walkOf panelOf among badCode badSchedule repeated listOr
 firings =
+    let listed3 : listOr 65537 2048 codes3 schedules3 (given []) ≡ given [] = refl in
+    let tabled3 : tableOf 65537 codes3 schedules3 ≡ table3 = refl in
     record {
-      P1 = refl;
-      P2 = refl;
-      P3 = refl;
+      P1 = gives _ _ _ refl refl;
+      P2 = gives _ _ _ refl refl;
+      P3 = gives _ _ _ listed3 tabled3;
       P3-total = refl;
-      P4 = refl;
-      P5 = refl;
+      P4 = gives _ _ _ refl refl;
+      P5 = gives _ _ _ refl refl;
       P6 = refl;
       P7-0 = refl;
       P7-1 = refl;
@@ -30,8 +89,14 @@ firings =
       P7-5 = refl;
       P8-found = refl;
       P8-absent = refl;
+      P8-own-10 = refl;
+      P8-own-6 = refl;
+      P8-holds = refl;
       P9 = refl;
-      P10 = refl;
-      P11 = λ lent. refl;
+      P9-block = refl;
+      P9-start = refl;
+      P9-end = refl;
+      P10 = refuses _ _ 14 _ _ (into-room codes3 schedules3 table3 listed3 tabled3 14);
+      P11 = λ lent. refuses _ _ lent _ _ (list-decides (5 ∷ 5 ∷ []) (1 ∷ 1 ∷ []) (refused 5 1) refl lent);
       P12 = refl;
     }
