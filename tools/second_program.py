@@ -9,7 +9,8 @@ Written from the paper alone, with the standard library alone.
       makes COUNT lists from SEED, runs PROGRAM on them and compares what it prints
 
 Input of `compare`: for each list n, then n codes, then n schedules, each four bytes, least first.
-Output: for each list `n c k total digest`, once for the list's order and once for the reverse.
+Output: a line for each list, once for the list's order and once for the reverse: all words of its table where it has
+at most SHORT pairs, otherwise `n c k total digest`.
 """
 import pathlib
 import random
@@ -18,6 +19,7 @@ import subprocess
 import sys
 
 P = 65537
+SHORT = 32
 FOLDER = pathlib.Path(__file__).resolve().parent.parent / "crates" / "compare"
 
 
@@ -71,7 +73,8 @@ def digest(words):
 
 def line(pairs):
     words = build(pairs)
-    return f"{words[0]} {words[1]} {words[2]} {len(words)} {digest(words)}\n"
+    shown = words if len(pairs) <= SHORT else words[:3] + [len(words), digest(words)]
+    return " ".join(map(str, shown)) + "\n"
 
 
 def paper_lists():

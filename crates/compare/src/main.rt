@@ -1,8 +1,12 @@
-// Builds each list of its input twice, in the list's order and in the reverse, and prints a line for each table: n, c, k, the total and a digest of all
-// words. tools/second_program.py makes the input and the lines that are expected. Input: n, n codes and n schedules, four bytes each, least first.
+// Builds each list of its input twice, in the list's order and in the reverse, and prints a line for each table: all its words where the list is short,
+// otherwise n, c, k, the total and a digest of all words. tools/second_program.py makes the input and the lines that are expected. Input: n, n codes and
+// n schedules, four bytes each, least first.
 ghost use Prim.Native.Nat.{_≤_, _<_};
 ghost use mathlib.Core.Path.{_≡_};
 ghost use lib.ListN.{length};
+
+// The most codes of a table whose words are printed.
+const SHORT: u32 = 32;
 
 fn wide(x: u8) -> u32 {
     x as u32
@@ -68,20 +72,33 @@ fn digest(words: &[u32]) -> u64 {
     d
 }
 
-fn print_field(x: u64) {
+// The field with index i of a line; a space parts it from the one before.
+fn print_field(i: usize, x: u64) {
+    if 0 < i {
+        io::write_all(1, b" ");
+    }
     io::print_decimal(1, x);
-    io::write_all(1, b" ");
+}
+
+fn print_words(words: &[u32]) {
+    let mut i: usize = 0;
+    while i < words.len() {
+        print_field(i, wide_word(words[i]));
+        i = i + 1;
+    }
 }
 
 fn print_table(words: &[u32]) {
     if words.len() < 3 {
         return;
     }
-    print_field(wide_word(words[0]));
-    print_field(wide_word(words[1]));
-    print_field(wide_word(words[2]));
-    print_field(words.len() as u64);
-    io::print_decimal(1, digest(words));
+    if words[0] <= SHORT {
+        print_words(words);
+    } else {
+        print_words(&words[..3]);
+        print_field(3, words.len() as u64);
+        print_field(4, digest(words));
+    }
     io::write_all(1, b"\n");
 }
 

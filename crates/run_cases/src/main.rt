@@ -1,5 +1,5 @@
-// The cases of document 01 that are run: ranges at their ends, the largest list and one more, panels at their ends. Each line is the case, then the
-// number and the value that C sees.
+// The cases of document 01 that are run: ranges at their ends and one beyond, the largest list and one more, panels at their ends. Each line is the
+// case, then the number and the value that C sees.
 ghost use Prim.Native.Nat.{_≤_};
 ghost use lib.ListN.{length};
 use table::answers::Numbered;
@@ -27,10 +27,11 @@ fn count_up(a: &mut [u32])
     }
 }
 
+// The list of 7 and this code.
 fn code(a: u32) {
-    let codes = [a];
-    let schedules = [500];
-    let mut words = [0u32; 7];
+    let codes = [7, a];
+    let schedules = [500, 500];
+    let mut words = [0u32; 15];
     print_line(
         b"code ",
         a,
@@ -38,10 +39,11 @@ fn code(a: u32) {
     );
 }
 
+// The list of 7 with 500 and 8 with this schedule.
 fn schedule(s: u32) {
-    let codes = [7];
-    let schedules = [s];
-    let mut words = [0u32; 7];
+    let codes = [7, 8];
+    let schedules = [500, s];
+    let mut words = [0u32; 15];
     print_line(
         b"schedule ",
         s,
@@ -49,12 +51,55 @@ fn schedule(s: u32) {
     );
 }
 
-fn lookup(a: u32) {
+// The table of 1 with 1 and 65,536 with 999.
+fn ends(words: &mut [u32]) {
     let codes = [1, 65536];
     let schedules = [1, 999];
+    glass_c::glass_build(&codes, &schedules, words);
+}
+
+fn lookup(a: u32) {
     let mut words = [0u32; 15];
-    glass_c::glass_build(&codes, &schedules, &mut words);
+    ends(&mut words);
     print_line(b"lookup ", a, glass_c::glass_lookup(&words, a));
+}
+
+// The panel of 1 and this code.
+fn panel_with(a: u32) {
+    let mut words = [0u32; 15];
+    ends(&mut words);
+    let codes = [1, a];
+    print_line(b"panel 1 ", a, glass_c::glass_panel(&words, &codes));
+}
+
+// The table of 7 with 500.
+fn seven(words: &mut [u32]) {
+    let codes = [7];
+    let schedules = [500];
+    glass_c::glass_build(&codes, &schedules, words);
+}
+
+// A code with a schedule, put into that table; n is the one of the two that the line names.
+fn insert(name: &[u8], n: u32, a: u32, s: u32) {
+    let mut words = [0u32; 7];
+    seven(&mut words);
+    let mut second = [0u32; 15];
+    print_line(name, n, glass_c::glass_insert(&words, a, s, &mut second));
+}
+
+fn insert_code(a: u32) {
+    insert(b"insert code ", a, a, 500);
+}
+
+fn insert_schedule(s: u32) {
+    insert(b"insert schedule ", s, 8, s);
+}
+
+fn remove(a: u32) {
+    let mut words = [0u32; 7];
+    seven(&mut words);
+    let mut second = [0u32; 15];
+    print_line(b"remove ", a, glass_c::glass_remove(&words, a, &mut second));
 }
 
 // The list of the first n of these pairs.
@@ -64,6 +109,19 @@ fn pairs(n: usize, codes: &[u32], schedules: &[u32])
     let mut words = [0u32; 16384];
     let a = glass_c::glass_build(&codes[..n], &schedules[..n], &mut words);
     print_line(b"pairs ", n as u32, a);
+}
+
+// A code with 1, put into the table of the first n of these pairs.
+fn insert_into(n: usize, a: u32, codes: &[u32], schedules: &[u32])
+    requires { ⌜ (n ≤ 2048) × ((n ≤ length (now codes)) × (n ≤ length (now schedules))) ⌝ }
+{
+    let mut words = [0u32; 16384];
+    glass_c::glass_build(&codes[..n], &schedules[..n], &mut words);
+    let mut second = [0u32; 16384];
+    let answer = glass_c::glass_insert(&words, a, 1, &mut second);
+    io::write_all(1, b"into ");
+    io::print_decimal(1, n as u64);
+    print_line(b" insert ", a, answer);
 }
 
 // The table of the first n codes, each with itself as its schedule.
@@ -79,6 +137,16 @@ fn panel(n: usize, words: &[u32], codes: &[u32])
 {
     let a = glass_c::glass_panel(words, &codes[..n]);
     print_line(b"panel ", n as u32, a);
+}
+
+// The largest table: reached, kept by a code that it has, and no larger.
+fn largest() {
+    let mut codes = [0u32; 2048];
+    count_up(&mut codes);
+    let schedules = [1u32; 2048];
+    insert_into(2047, 2048, &codes, &schedules);
+    insert_into(2048, 2048, &codes, &schedules);
+    insert_into(2048, 2049, &codes, &schedules);
 }
 
 fn lists() {
@@ -110,5 +178,24 @@ fn main() {
     lookup(2);
     lookup(65536);
     lookup(65537);
+    panel_with(0);
+    panel_with(1);
+    panel_with(2);
+    panel_with(65536);
+    panel_with(65537);
+    insert_code(0);
+    insert_code(1);
+    insert_code(65536);
+    insert_code(65537);
+    insert_schedule(0);
+    insert_schedule(1);
+    insert_schedule(999);
+    insert_schedule(1000);
+    remove(0);
+    remove(1);
+    remove(7);
+    remove(65536);
+    remove(65537);
+    largest();
     lists();
 }

@@ -1,0 +1,28 @@
+-- `compare::print_words` is safe and ends. The invariant: i is an index of a word, or the number of words.
+use Prim.Native.Nat.{_≤_, _-_}
+use borrow.Author.Needs.{needs}
+use lib.ListN.{length}
+use Rattle.compare.proofs.print_words.Statement.{statement}
+use Rattle.compare.proofs.print_words.Tie as tie
+
+abbrev Inv-loop : tie.InvT-loop
+Inv-loop words i₀ i = i ≤ length words
+
+abbrev μ-loop : tie.MeasureT-loop
+μ-loop words i₀ i = length words - i
+
+pub print-words-spec : {M : Type 1} → statement M
+print-words-spec =
+    tie.close
+    (tie.spec
+    Inv-loop
+    μ-loop
+    (λ c. search needs)
+    (λ c. search needs)
+    (λ c. search needs)
+    (λ c κs. search needs)
+    (λ c κs. search needs)
+    (λ c. search needs)
+    (λ c. search needs)
+    (λ c. search needs)
+    (λ c. search needs))
