@@ -48,6 +48,10 @@ loop-again c =
       search needs,
     )
 
+-- the loop is left by its answer alone: the least multiplier is below p
+returns-3 : tie.Need-returns-3 Inv-loop μ-loop
+returns-3 c = absurd (omega arith)
+
 pub blocks-multiplier-spec : {M : Type 1} → statement M
 blocks-multiplier-spec =
     tie.close
@@ -67,6 +71,6 @@ blocks-multiplier-spec =
     (λ c. omega arith)
     (λ c. omega arith)
     loop-again
-    (λ c. absurd (omega arith))
-    (λ c. absurd (omega arith))
-    (λ c. absurd (omega arith)))
+    (λ c. search needs)
+    (λ c. search needs)
+    returns-3)

@@ -68,6 +68,10 @@ loop-again c =
     let (next, kept) = cells-more (called .place-block .ensures) (h .loop .inv .0) (c .if1 .left) in
     (next, kept ∙ h .loop .inv .1)
 
+-- the loop is left by its answer alone: the least multiplier is below p
+returns-2 : tie.Need-returns-2 Inv-loop μ-loop
+returns-2 c = absurd (omega arith)
+
 pub cells-multiplier-spec : {M : Type 1} → statement M
 cells-multiplier-spec =
     tie.close
@@ -83,5 +87,5 @@ cells-multiplier-spec =
     (λ c. omega arith)
     (λ c. omega arith)
     loop-again
-    (λ c. absurd (omega arith))
-    (λ c. absurd (omega arith)))
+    (λ c. ap length (c .before .loop .inv .1))
+    returns-2)
