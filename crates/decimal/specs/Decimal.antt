@@ -4,7 +4,7 @@ use mathlib.Core.Bool.{cond}
 use mathlib.Core.List.{List, [], _∷_, _++_}
 use lib.Dec.{ltb}
 
--- the last `digits` decimal digits of a number, without leading zeros
+-- the decimal digits of a number that has at most `digits` of them
 unfoldable pub digitsOf : ℕ → ℕ → List ℕ
 digitsOf zero x = []
 digitsOf (suc digits) x = cond (ltb x 10) ((48 + x) ∷ []) (digitsOf digits (x / 10) ++ ((48 + x % 10) ∷ []))

@@ -53,14 +53,21 @@ removeOf p limit words code lent =
     (refuse (not (present words code)) 55 0
     (rebuilt p (without code (pairsIn words)) lent)))
 
+-- the second buffer after an insert, and after a remove
+abbrev pub insertedWords : ℕ → ℕ → List ℕ → ℕ → ℕ → List ℕ → List ℕ
+insertedWords p limit words code schedule second =
+    filled (insertOf p limit words code schedule (length second)) (tableOfPairs p (withPair code schedule (pairsIn words))) second
+
+abbrev pub removedWords : ℕ → ℕ → List ℕ → ℕ → List ℕ → List ℕ
+removedWords p limit words code second =
+    filled (removeOf p limit words code (length second)) (tableOfPairs p (without code (pairsIn words))) second
+
 -- an insert's answer, and the second buffer at exit
 pub record Inserted (p limit : ℕ) (words : List ℕ) (code schedule : ℕ) (second : List ℕ) (answer : Answer) (second′ : List ℕ) : Type 0 where
   pub answers : answer ≡ insertOf p limit words code schedule (length second)
-  pub second-at-exit :
-      second′ ≡ filled (insertOf p limit words code schedule (length second)) (tableOfPairs p (withPair code schedule (pairsIn words))) second
+  pub second-at-exit : second′ ≡ insertedWords p limit words code schedule second
 
 -- a remove's answer, and the second buffer at exit
 pub record Removed (p limit : ℕ) (words : List ℕ) (code : ℕ) (second : List ℕ) (answer : Answer) (second′ : List ℕ) : Type 0 where
   pub answers : answer ≡ removeOf p limit words code (length second)
-  pub second-at-exit :
-      second′ ≡ filled (removeOf p limit words code (length second)) (tableOfPairs p (without code (pairsIn words))) second
+  pub second-at-exit : second′ ≡ removedWords p limit words code second

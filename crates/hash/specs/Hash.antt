@@ -7,7 +7,7 @@ use mathlib.Core.Path.{_≡_}
 use lib.Dec.{eqb}
 use lib.ListN.{length, getD}
 
--- the place of code a among w places: its block (w = n), or its cell in a block (w = m * m)
+-- the place of code a among w places: its block (w = n), or its cell in a block (w the block's cells)
 unfoldable pub hashOf : ℕ → ℕ → ℕ → ℕ → ℕ
 hashOf p k w a = ((k * a) % p) % w
 

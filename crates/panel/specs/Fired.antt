@@ -2,14 +2,14 @@
 use mathlib.Core.List.{[], _∷_}
 use Rattle.table.specs.Answers.{Answer, given, unknown, refused}
 use Rattle.panel.specs.declared.Fired.{Fired}
-use Rattle.panel.specs.declared.Fired.the-variants.{Schedule, Unknown, CodeOutOfRange, TooFewWords, BadSizes, BadBlock, NoCodes, TooManyCodes}
+use Rattle.panel.specs.declared.Fired.the-variants.{Schedule, NoCodes, TooManyCodes, Unknown, CodeOutOfRange, TooFewWords, BadSizes, BadBlock}
 
 abbrev pub firedOf : Fired → Answer
 firedOf (Schedule s) = given (s ∷ [])
+firedOf NoCodes = refused 35 0
+firedOf TooManyCodes = refused 36 0
 firedOf (Unknown i) = unknown i
 firedOf (CodeOutOfRange i) = refused 31 i
 firedOf (TooFewWords i) = refused 32 i
 firedOf (BadSizes i) = refused 33 i
 firedOf (BadBlock i) = refused 34 i
-firedOf NoCodes = refused 35 0
-firedOf TooManyCodes = refused 36 0

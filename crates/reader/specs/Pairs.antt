@@ -35,7 +35,7 @@ unfoldable pub pairsIn : List ℕ → List Pair
 unfolding stored rising
 pairsIn words = rising (stored (allCodes words) (allSchedules words))
 
--- the answer of reading back into arrays of these lengths
+-- the answer of reading back into these arrays
 unfoldable pub pairsOf : ℕ → ℕ → List ℕ → List ℕ → List ℕ → Answer
 unfolding checkOf
 pairsOf p limit words codes schedules =
@@ -43,8 +43,15 @@ pairsOf p limit words codes schedules =
     (refuse (ltb (length codes) (codeCount words) || ltb (length schedules) (codeCount words)) 41 (codeCount words)
     (given (codeCount words ∷ [])))
 
+-- the lent codes and schedules after reading back
+abbrev pub codesRead : ℕ → ℕ → List ℕ → List ℕ → List ℕ → List ℕ
+codesRead p limit words codes schedules = filled (pairsOf p limit words codes schedules) (codesOf (pairsIn words)) codes
+
+abbrev pub schedulesRead : ℕ → ℕ → List ℕ → List ℕ → List ℕ → List ℕ
+schedulesRead p limit words codes schedules = filled (pairsOf p limit words codes schedules) (schedulesOf (pairsIn words)) schedules
+
 -- the answer, and both lent arrays at exit
 pub record PairsRead (p limit : ℕ) (words codes schedules : List ℕ) (answer : Answer) (codes′ schedules′ : List ℕ) : Type 0 where
   pub answers : answer ≡ pairsOf p limit words codes schedules
-  pub codes-at-exit : codes′ ≡ filled (pairsOf p limit words codes schedules) (codesOf (pairsIn words)) codes
-  pub schedules-at-exit : schedules′ ≡ filled (pairsOf p limit words codes schedules) (schedulesOf (pairsIn words)) schedules
+  pub codes-at-exit : codes′ ≡ codesRead p limit words codes schedules
+  pub schedules-at-exit : schedules′ ≡ schedulesRead p limit words codes schedules

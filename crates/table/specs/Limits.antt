@@ -1,4 +1,4 @@
--- The limits of the product (document 01), each said here alone.
+-- The limit on pairs (document 01), and the room of local arrays: each is said here alone.
 use Prim.Native.Nat.{ℕ}
 
 -- the most pairs of a list, and codes of a table

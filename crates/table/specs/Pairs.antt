@@ -4,7 +4,7 @@ use mathlib.Core.Bool.{Bool, false, _||_, cond}
 use mathlib.Core.List.{List, [], _∷_, map}
 use lib.Dec.{eqb}
 
--- a code with its schedule
+-- a code with its schedule, or with another value that goes with it
 pub record Pair : Type 0 where
   pub code : ℕ
   pub schedule : ℕ

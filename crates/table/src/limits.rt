@@ -1,4 +1,4 @@
-// The limits of the product, each said here alone (specs/Limits.antt).
+// The limit on pairs, and the room of local arrays: each is said here alone (specs/Limits.antt).
 
 // The most pairs of a list, and codes of a table.
 pub const MOST_PAIRS: u32 = 2048;
