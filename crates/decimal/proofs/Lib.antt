@@ -1,3 +1,4 @@
--- Pieces written one after the other, and the digits of a number.
+-- Pieces written one after the other, the digits of a number, and numbers that are read.
 pub mod Added
 pub mod Decimal
+pub mod Numbers

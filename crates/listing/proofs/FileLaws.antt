@@ -31,8 +31,9 @@ use Rattle.reader.proofs.pairs.ReadBack.{the-type}
 use denote.Enum.Declared.{tagOf}
 use types.Run.{OneOf, miss}
 use Rattle.files.specs.Bytes.{wordsOf}
-use Rattle.listing.specs.Listing.{refusedLine, tableText, fileOf, textOf, listingOf}
-use Rattle.listing.proofs.LineLaws.{paired-same}
+use Rattle.listing.specs.Listing.{tableText, fileOf, textOf, listingOf}
+use Rattle.lines.specs.Lines.{refusedLine}
+use Rattle.lines.proofs.LineLaws.{paired-same}
 
 -- the text for bytes, by their number
 module _ (p limit : ℕ) (bytes : List ℕ) where

@@ -8,21 +8,11 @@ use lib.Dec.{eqb, ltb}
 use lib.ListN.{length}
 use Rattle.files.specs.Bytes.{wordsOf}
 use Rattle.decimal.specs.Decimal.{decimal}
+use Rattle.lines.specs.Lines.{space, newline, pairLines, refusedLine}
 use Rattle.table.specs.Answers.{Answer, given, absent, unknown, refused, refuse, over}
 use Rattle.table.specs.Words.{codeCount, cellCount, multiplier}
 use Rattle.audit.specs.Check.{checkOf}
-use Rattle.table.specs.Pairs.{Pair}
 use Rattle.reader.specs.Pairs.{pairsIn}
-
-abbrev pub space : List ℕ
-space = 32 ∷ []
-
-abbrev pub newline : List ℕ
-newline = 10 ∷ []
-
--- "refused"
-abbrev pub refused-name : List ℕ
-refused-name = 114 ∷ 101 ∷ 102 ∷ 117 ∷ 115 ∷ 101 ∷ 100 ∷ []
 
 -- "codes"
 abbrev pub codes-name : List ℕ
@@ -36,11 +26,6 @@ cells-name = 99 ∷ 101 ∷ 108 ∷ 108 ∷ 115 ∷ []
 abbrev pub multiplier-name : List ℕ
 multiplier-name = 109 ∷ 117 ∷ 108 ∷ 116 ∷ 105 ∷ 112 ∷ 108 ∷ 105 ∷ 101 ∷ 114 ∷ []
 
--- refused NUMBER VALUE
-unfoldable pub refusedLine : ℕ → ℕ → List ℕ
-unfolding decimal
-refusedLine number value = refused-name ++ (space ++ (decimal number ++ (space ++ (decimal value ++ newline))))
-
 -- codes N cells C multiplier K
 unfoldable pub headLine : ℕ → ℕ → ℕ → List ℕ
 unfolding decimal
@@ -49,16 +34,10 @@ headLine n c k =
     ++ (cells-name ++ (space ++ (decimal c ++ (space
     ++ (multiplier-name ++ (space ++ (decimal k ++ newline))))))))))
 
--- CODE SCHEDULE, a line for each pair
-unfoldable pub pairLines : List Pair → List ℕ
-unfolding decimal
-pairLines [] = []
-pairLines (r ∷ pairs) = decimal (r .code) ++ (space ++ (decimal (r .schedule) ++ (newline ++ pairLines pairs)))
-
--- the listing of an accepted table
+-- the listing of an accepted table: its first line, and CODE SCHEDULE for each pair
 unfoldable pub tableText : List ℕ → List ℕ
 unfolding headLine pairLines
-tableText words = headLine (codeCount words) (cellCount words) (multiplier words) ++ pairLines (pairsIn words)
+tableText words = headLine (codeCount words) (cellCount words) (multiplier words) ++ pairLines 32 (pairsIn words)
 
 -- the answer to a file: 61, 62, or the check's
 unfoldable pub fileOf : ℕ → ℕ → List ℕ → Answer

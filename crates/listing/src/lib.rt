@@ -3,7 +3,6 @@ ghost use Rattle.listing.specs.Listing.{FileListed};
 ghost use Rattle.table.specs.Limits.{mostPairs};
 use table::limits::MOST_PAIRS;
 
-mod lines;
 mod texts;
 
 // Writes the text for the bytes of a file into the first lent bytes, and answers its length: the lines of its table, or the one line of its

@@ -1,4 +1,4 @@
--- Lent memory that is written front to back: what a piece written from one place on leaves there.
+-- Lent memory that is written piece by piece: what a piece leaves there.
 use Prim.Native.Nat.{ℕ, _+_, _≤_}
 use mathlib.Core.List.{List, _++_}
 use mathlib.Core.Path.{_≡_}

@@ -5,7 +5,7 @@ use borrow.Author.Needs.{needs}
 use lib.Seq.{length-take-le}
 use Rattle.files.proofs.WordLaws.{filled-fits, filled-whole}
 use Rattle.listing.proofs.FileLaws.{too-long, ragged, whole, file-listed}
-use Rattle.listing.proofs.LineLaws.{refused-fits}
+use Rattle.lines.proofs.LineLaws.{refused-fits}
 use Rattle.listing.proofs.texts.list_file.Statement.{statement}
 use Rattle.listing.proofs.texts.list_file.Tie as tie
 

@@ -4,7 +4,7 @@ use mathlib.Core.Path.{_∙_, sym, ap}
 use borrow.Author.Needs.{needs}
 use Rattle.reader.specs.ReadBack.{readOf}
 use Rattle.listing.proofs.FileLaws.{ListedTable, listed, refused-text, no-pairs}
-use Rattle.listing.proofs.LineLaws.{refused-fits}
+use Rattle.lines.proofs.LineLaws.{refused-fits}
 use Rattle.listing.proofs.texts.list_words.Statement.{statement}
 use Rattle.listing.proofs.texts.list_words.Tie as tie
 

@@ -1,0 +1,2 @@
+-- The lines that texts are made of.
+pub mod Lines
