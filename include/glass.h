@@ -1,19 +1,19 @@
 /* glass.h -- the glass code table of a kiln controller, from C
  *
  * A table is a run of 32-bit words from glass codes (1 to 65,536) to firing schedules (1 to 999). It is built from a studio's list of at most
- * 2,048 pairs, in any order: the same pairs give the same words. Nothing here allocates, keeps state between calls, or needs a table to have been
- * checked before: every function answers every input.
+ * 2,048 pairs, in any order: the same pairs give the same words. A list is also read from a supplier's text, and written as one. Nothing here
+ * allocates, keeps state between calls, or needs a table or a text to have been checked before: every function answers every input.
  *
- * Lent memory. An array is lent as a pointer and the number of its elements. The pointer is aligned for uint32_t, and the elements may be read; those
- * of an array that is not const may be written too. Where the number is 0, the pointer need only be non-null and aligned (any non-null uint32_t
- * pointer will do): nothing is read or written through it. Arrays that are written may overlap no other array of the same call. A refusal changes nothing
- * that was lent.
+ * Lent memory. An array is lent as a pointer and the number of its elements. The pointer is aligned for its element (any address will do for a text's
+ * uint8_t), and the elements may be read; those of an array that is not const may be written too. Where the number is 0, the pointer need only be
+ * non-null and aligned (any non-null pointer of its type will do): nothing is read or written through it. Arrays that are written may overlap no other
+ * array of the same call. A refusal changes nothing that was lent.
  *
  * Stack. glass_insert and glass_remove use up to 100 KiB, glass_build up to 52 KiB, glass_pairs up to 34 KiB, the others less than 1 KiB.
  *
  * Answers. Every function answers a number and a value: GLASS_OK with the result, GLASS_ABSENT (lookup, panel), or a refusal with what comes with it.
- * Refusals are tested in the order in which each function lists them, each over all pairs, blocks or cells before the next; pairs, blocks and cells are
- * counted from 0.
+ * Both are 32 bits in a glass_answer; in a glass_size, which reading and writing a text answer, the value is a size_t. Refusals are tested in the order in
+ * which each function lists them, each over all pairs, blocks, cells or lines before the next; pairs, blocks, cells and lines are counted from 0.
  */
 #ifndef GLASS_H
 #define GLASS_H
@@ -29,6 +29,11 @@ typedef struct {
     uint32_t number; /* a glass_number */
     uint32_t value;
 } glass_answer;
+
+typedef struct {
+    uint32_t number; /* a glass_number */
+    size_t value;    /* pairs, lines or bytes */
+} glass_size;
 
 /* Every number that can come back, and what `value` holds with it: 0 where nothing is said. */
 typedef enum {
@@ -74,12 +79,17 @@ typedef enum {
     GLASS_EDIT_BAD_SCHEDULE = 52,    /* the schedule is not from 1 to GLASS_MOST_SCHEDULE */
     GLASS_EDIT_FULL = 53,            /* the code is new, and the table has GLASS_MOST_PAIRS */
     GLASS_EDIT_WORDS_TOO_FEW = 54,   /* fewer words are lent than the new table takes: the words that it takes */
-    GLASS_EDIT_NOT_THERE = 55        /* the table does not have the code */
+    GLASS_EDIT_NOT_THERE = 55,       /* the table does not have the code */
+
+    /* a list as text */
+    GLASS_TEXT_FAULTY_LINE = 71,     /* a line is not a pair's, has a number above 4,294,967,295, or is not ended: the first such line */
+    GLASS_TEXT_NO_ROOM = 72          /* reading: codes or schedules has fewer places than the text has lines: its lines;
+                                        writing: fewer bytes are lent than the text takes: the bytes that it takes */
 } glass_number;
 
 /* The limits. */
 enum {
-    GLASS_MOST_PAIRS = 2048,    /* of a list */
+    GLASS_MOST_PAIRS = 2048,    /* of a list that is built or written; a text that is read may have any number of lines */
     GLASS_MOST_CODE = 65536,
     GLASS_MOST_SCHEDULE = 999,
     GLASS_MOST_PANEL = 64,      /* codes of a panel */
@@ -141,6 +151,28 @@ glass_answer glass_insert(const uint32_t *words, size_t words_len, uint32_t code
  *
  * Refusals: 51; 11 to 21, of the old table; then 55, 54. */
 glass_answer glass_remove(const uint32_t *words, size_t words_len, uint32_t code, uint32_t *second, size_t second_len);
+
+/* A list as text: for each pair, in the list's order, a line of its code, a comma and its schedule, ended by a newline byte (10). Both numbers are
+ * plain digits without leading zeros, 0 is the one digit 0, and each is at most 4,294,967,295: ranges and repeats are glass_build's business. A
+ * carriage return, a blank, a sign or an empty line is a fault. An empty text is the empty list. A list that is written and read again is the same. */
+
+/* Bytes that are enough for the text of any n pairs: two numbers of 10 digits, a comma and a newline for each. */
+static inline size_t glass_text_bytes(size_t n) { return 22 * n; }
+
+/* Reads the text of a list: its pairs into the first places of codes and schedules. Later places keep what they held.
+ *
+ * Result: the number of pairs.
+ *
+ * Refusals: 71, 72. */
+glass_size glass_read_list(const uint8_t *text, size_t text_len, uint32_t *codes, size_t codes_len, uint32_t *schedules, size_t schedules_len);
+
+/* Writes the text of a list into text[0 .. text_len - 1]. codes[i] and schedules[i] are a pair, of any two numbers.
+ *
+ * Result: the bytes of the text. Exactly these are written, without a null byte; those after them keep what they held.
+ *
+ * Refusals: 1, 2, 72. text_len = glass_text_bytes(codes_len) is never 72. */
+glass_size glass_write_list(const uint32_t *codes, size_t codes_len, const uint32_t *schedules, size_t schedules_len, uint8_t *text,
+                            size_t text_len);
 
 #ifdef __cplusplus
 }

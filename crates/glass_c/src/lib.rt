@@ -3,12 +3,13 @@ ghost use Rattle.table.specs.Lookup.{lookupOf};
 ghost use Rattle.panel.specs.Panel.{panelOf};
 ghost use Rattle.audit.specs.Check.{checkOf};
 ghost use Rattle.table.specs.Numbers.{Shown};
-ghost use Rattle.glass_c.specs.Exports.{BuildShown, PairsShown, InsertShown, RemoveShown};
+ghost use Rattle.glass_c.specs.Exports.{BuildShown, PairsShown, InsertShown, RemoveShown, ReadListShown, WriteListShown};
 ghost use Rattle.table.specs.Limits.{mostPairs};
 
 mod found;
 
 use table::answers::Numbered;
+use table::answers::NumberedSize;
 
 #[no_mangle]
 pub extern "C" fn glass_build(codes: &[u32], schedules: &[u32], words: &mut [u32]) -> Numbered
@@ -62,4 +63,26 @@ pub extern "C" fn glass_remove(words: &[u32], code: u32, second: &mut [u32]) -> 
     ensures { λ r. ⌜ RemoveShown 65537 mostPairs (now (words .entry)) code (now (second .entry)) r (now (second .exit)) ⌝ }
 {
     editor::numbered::numbered(editor::edit::remove(words, code, second))
+}
+
+#[no_mangle]
+pub extern "C" fn glass_read_list(
+    text: &[u8],
+    codes: &mut [u32],
+    schedules: &mut [u32],
+) -> NumberedSize
+    ensures { λ r. ⌜ ReadListShown (now (text .entry)) (now (codes .entry)) (now (schedules .entry)) r (now (codes .exit)) (now (schedules .exit)) ⌝ }
+{
+    suppliers::numbered::numbered_read(suppliers::read::read_list(text, codes, schedules))
+}
+
+#[no_mangle]
+pub extern "C" fn glass_write_list(
+    codes: &[u32],
+    schedules: &[u32],
+    text: &mut [u8],
+) -> NumberedSize
+    ensures { λ r. ⌜ WriteListShown mostPairs (now (codes .entry)) (now (schedules .entry)) (now (text .entry)) r (now (text .exit)) ⌝ }
+{
+    suppliers::numbered::numbered_written(suppliers::write::write_list(codes, schedules, text))
 }

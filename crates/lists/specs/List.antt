@@ -21,16 +21,22 @@ unfoldable pub repeated : List ℕ → ℕ → Bool
 unfolding among
 repeated codes i = among (getD codes i 0) (take i codes)
 
+-- refusals 1 and 2 of a list, by its sizes, otherwise what follows
+abbrev pub sizesOr : ℕ → List ℕ → List ℕ → Answer → Answer
+sizesOr limit codes schedules rest =
+    refuse (not (eqb (length codes) (length schedules))) 1 0
+    (refuse (ltb limit (length codes)) 2 0
+    rest)
+
 -- the refusals of a list, otherwise what follows
 unfoldable pub listOr : ℕ → ℕ → List ℕ → List ℕ → Answer → Answer
 unfolding badCode badSchedule repeated
 listOr p limit codes schedules rest =
-    refuse (not (eqb (length codes) (length schedules))) 1 0
-    (refuse (ltb limit (length codes)) 2 0
+    sizesOr limit codes schedules
     (refuseFirst (length codes) (badCode p codes) 3
     (refuseFirst (length codes) (badSchedule schedules) 4
     (refuseFirst (length codes) (repeated codes) 5
-    rest))))
+    rest)))
 
 -- the paper's number for each case of a list's answer; a valid list has no value of its own
 abbrev pub listedOf : ListAnswer → Answer

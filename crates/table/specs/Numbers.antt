@@ -5,6 +5,7 @@ use mathlib.Core.Path.{_≡_}
 use lib.ListN.{length, getD}
 use Rattle.table.specs.Answers.{Answer, given, absent, unknown, refused}
 use Rattle.table.specs.declared.answers.Numbered.{Numbered}
+use Rattle.table.specs.declared.answers.NumberedSize.{NumberedSize}
 
 -- 0 for a result, 1000 for an absent or unknown code, the refusal's number otherwise
 abbrev pub numberOf : Answer → ℕ
@@ -22,5 +23,10 @@ valueOf (refused number value) = value
 
 -- r is the number and the value of an answer: the promise of every `numbered` function and of every C export
 pub record Shown (answer : Answer) (r : Numbered) : Type 0 where
+  pub number-shown : r .number ≡ numberOf answer
+  pub value-shown : r .value ≡ valueOf answer
+
+-- the same where the value is a size
+pub record SizeShown (answer : Answer) (r : NumberedSize) : Type 0 where
   pub number-shown : r .number ≡ numberOf answer
   pub value-shown : r .value ≡ valueOf answer

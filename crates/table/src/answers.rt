@@ -7,3 +7,10 @@ pub struct Numbered {
     pub number: u32,
     pub value: u32,
 }
+
+// The same of an operation whose values are sizes of any memory, such as the bytes of a text.
+#[repr(C)]
+pub struct NumberedSize {
+    pub number: u32,
+    pub value: usize,
+}

@@ -1,0 +1,2 @@
+-- How a text is gone through.
+pub mod Scan
