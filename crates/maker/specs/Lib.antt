@@ -1,0 +1,2 @@
+-- The table file of a supplier's text.
+pub mod Making
