@@ -9,7 +9,7 @@ use mathlib.Core.Path.{_≡_, refl, sym, ap, _∙_}
 use borrow.Author.Tests.{eqb-true, eqb-false}
 use lib.Dec.{eqb, ltb, lit≤}
 use lib.ListN.{length}
-use Rattle.table.specs.Answers.{Answer, given, absent, unknown, refused, refuse, orRefused, outside}
+use Rattle.table.specs.Answers.{Answer, given, absent, unknown, refused, refuse, orRefused, firstOf, some, outside}
 use Rattle.table.specs.Pairs.{Pair, among, codesOf}
 use Rattle.table.specs.Words.{codeCount, cellCount, total, blockStart, blockEnd, blockMultiplier, cellCode, cellSchedule, blockOf, cellIn}
 use Rattle.table.specs.TwoLevel.{wordsNeeded}
@@ -26,6 +26,8 @@ use Rattle.builder.specs.Build.{buildOf}
 use Rattle.editor.specs.Edit.{without, withPair, present, rebuilt, insertOf, removeOf}
 use Rattle.files.specs.Bytes.{wordsOf}
 use Rattle.listing.specs.Listing.{fileOf}
+use Rattle.suppliers.specs.Text.{linesOf}
+use Rattle.suppliers.specs.Lists.{faultyLine, readListOf, listText, writeListOf}
 use Rattle.demands.specs.Answered.{ResultOr, LookupAnswer, PanelAnswer}
 use Rattle.demands.specs.Theorems.{checkAlone, checkValued, Answering}
 
@@ -171,6 +173,29 @@ module _ (p limit : ℕ) where
       (test-first result (61 ∷ 62 ∷ checkAlone) checkValued (not (eqb (length bytes % 4) 0)) 62 0 _ refl
       (check-answers (61 ∷ 62 ∷ checkAlone) checkValued p limit (wordsOf bytes) refl))
 
+-- ---- texts
+
+read-list-answers :
+    (text : List ℕ) (codes schedules : ℕ)
+    → ResultOr (length (linesOf text) ∷ []) [] (71 ∷ 72 ∷ []) (readListOf text codes schedules)
+unfolding readListOf among
+read-list-answers text codes schedules =
+    let result = length (linesOf text) ∷ [] in
+    test-first result [] (71 ∷ 72 ∷ []) (some (length (linesOf text)) (faultyLine text)) 71 (firstOf (length (linesOf text)) (faultyLine text)) _ refl
+    (test-first result [] (71 ∷ 72 ∷ []) (ltb codes (length (linesOf text)) || ltb schedules (length (linesOf text))) 72 (length (linesOf text))
+    (given result) refl (done result _ _))
+
+write-list-answers :
+    (limit : ℕ) (codes schedules : List ℕ) (lent : ℕ)
+    → ResultOr (length (listText codes schedules) ∷ []) (1 ∷ 2 ∷ []) (72 ∷ []) (writeListOf limit codes schedules lent)
+unfolding writeListOf among
+write-list-answers limit codes schedules lent =
+    let needed = length (listText codes schedules) in
+    let result = needed ∷ [] in
+    test-first result (1 ∷ 2 ∷ []) (72 ∷ []) (not (eqb (length codes) (length schedules))) 1 0 _ refl
+    (test-first result (1 ∷ 2 ∷ []) (72 ∷ []) (ltb limit (length codes)) 2 0 _ refl
+    (test-first result (1 ∷ 2 ∷ []) (72 ∷ []) (ltb lent needed) 72 needed (given result) refl (done result _ _)))
+
 -- ---- lookups
 
 -- one test of a lookup before an answer
@@ -280,4 +305,6 @@ answering =
       insert = insert-answers 65537 2048;
       remove = remove-answers 65537 2048;
       file = file-answers 65537 2048;
+      read-list = read-list-answers;
+      write-list = write-list-answers 2048;
     }

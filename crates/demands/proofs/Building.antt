@@ -32,7 +32,7 @@ use Rattle.demands.proofs.BuildingOrder.{order-succeeds, order-table}
 -- ---- the table of a list
 
 module _ (codes schedules : List ℕ) (valid : Valid 65537 2048 codes schedules) where
-  whole : take (wordsNeeded 65537 codes) (tableOf 65537 codes schedules) ≡ tableOf 65537 codes schedules
+  pub whole : take (wordsNeeded 65537 codes) (tableOf 65537 codes schedules) ≡ tableOf 65537 codes schedules
   whole =
       ap (λ (n : ℕ). take n (tableOf 65537 codes schedules)) (sym (table-length 65537 codes schedules))
       ∙ take-length (tableOf 65537 codes schedules)

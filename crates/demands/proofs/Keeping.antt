@@ -6,9 +6,10 @@ use mathlib.Core.List.{List, [], _∷_}
 use mathlib.Core.Logic.{⊎-elim}
 use mathlib.Core.Path.{_≡_, refl, sym, ap, _∙_}
 use Rattle.table.specs.Answers.{Answer, given, absent, unknown, refused, filled}
-use Rattle.table.specs.Numbers.{valueOf, Shown}
+use Rattle.table.specs.Numbers.{numberOf, valueOf, Shown, SizeShown}
 use Rattle.table.specs.Pairs.{among}
 use Rattle.table.specs.declared.answers.Numbered.{Numbered}
+use Rattle.table.specs.declared.answers.NumberedSize.{NumberedSize}
 use Rattle.builder.specs.Build.{builtWords}
 use Rattle.demands.specs.Answered.{IsRefusal, ResultOr, FilledOrKept}
 use Rattle.demands.specs.Theorems.{Keeping, Exporting}
@@ -27,6 +28,9 @@ keeping =
           (b .codes-at-exit ∙ kept _ codes (b .answers) no, b .schedules-at-exit ∙ kept _ schedules (b .answers) no);
       insert = λ words code schedule second answer second′ b no. b .second-at-exit ∙ kept _ second (b .answers) no;
       remove = λ words code second answer second′ b no. b .second-at-exit ∙ kept _ second (b .answers) no;
+      read-list = λ text codes schedules answer codes′ schedules′ b no.
+          (b .codes-at-exit ∙ kept _ codes (b .answers) no, b .schedules-at-exit ∙ kept _ schedules (b .answers) no);
+      write-list = λ codes schedules text answer text′ b no. b .text-at-exit ∙ kept _ text (b .answers) no;
     }
 
 -- ---- what C sees
@@ -39,35 +43,48 @@ module _
     (value : ℕ) (alone valued new old : List ℕ) (none-alone : among 0 alone ≡ false) (none-valued : among 0 valued ≡ false)
   where
     shown :
-        (answer : Answer) (r : Numbered) (old′ : List ℕ) → ResultOr (value ∷ []) alone valued answer → Shown answer r
-        → old′ ≡ filled answer new old → FilledOrKept r value new old old′
+        (answer : Answer) (number-is value-is : ℕ) (old′ : List ℕ) → ResultOr (value ∷ []) alone valued answer → number-is ≡ numberOf answer
+        → value-is ≡ valueOf answer → old′ ≡ filled answer new old → FilledOrKept number-is value-is value new old old′
     unfolding ResultOr
-    shown (given values) r old′ is s e =
-        (λ zero. (s .value-shown ∙ ap (λ (v : List ℕ). valueOf (given v)) is, e), λ ne. absurd (ne (s .number-shown)))
-    shown absent r old′ is s e = absurd is
-    shown (unknown i) r old′ is s e = absurd is
-    shown (refused number v) r old′ is s e = (
+    shown (given values) number-is value-is old′ is n v e =
+        (λ zero. (v ∙ ap (λ (values : List ℕ). valueOf (given values)) is, e), λ ne. absurd (ne n))
+    shown absent number-is value-is old′ is n v e = absurd is
+    shown (unknown i) number-is value-is old′ is n v e = absurd is
+    shown (refused number with) number-is value-is old′ is n v e = (
       λ zero.
           absurd
           (⊎-elim
-          (λ alone-one. no-zero number alone none-alone (alone-one .0) (sym (s .number-shown) ∙ zero))
-          (λ valued-one. no-zero number valued none-valued valued-one (sym (s .number-shown) ∙ zero))
+          (λ alone-one. no-zero number alone none-alone (alone-one .0) (sym n ∙ zero))
+          (λ valued-one. no-zero number valued none-valued valued-one (sym n ∙ zero))
           is),
       λ ne. e,
     )
+
+    -- the same by what C sees of a number and a value, or a size
+    shows : {answer : Answer} {r : Numbered} (old′ : List ℕ) → ResultOr (value ∷ []) alone valued answer → Shown answer r → old′ ≡ filled answer new old → FilledOrKept (r .number) (r .value) value new old old′
+    shows old′ is s e = shown _ _ _ old′ is (s .number-shown) (s .value-shown) e
+
+    shows-size : {answer : Answer} {r : NumberedSize} (old′ : List ℕ) → ResultOr (value ∷ []) alone valued answer → SizeShown answer r → old′ ≡ filled answer new old → FilledOrKept (r .number) (r .value) value new old old′
+    shows-size old′ is s e = shown _ _ _ old′ is (s .number-shown) (s .value-shown) e
 
 pub exporting : Exporting
 unfolding builtWords among
 exporting =
     record {
       glass-build = λ codes schedules words r words′ b.
-          shown _ _ _ _ words refl refl _ r words′ (answering .build codes schedules _) (b .shows) (b .words-at-exit);
+          shows _ _ _ _ words refl refl words′ (answering .build codes schedules _) (b .shows) (b .words-at-exit);
       glass-pairs = λ words codes schedules r codes′ schedules′ b. (
-        shown _ _ _ _ codes refl refl _ r codes′ (answering .pairs words codes schedules) (b .shows) (b .codes-at-exit),
-        shown _ _ _ _ schedules refl refl _ r schedules′ (answering .pairs words codes schedules) (b .shows) (b .schedules-at-exit),
+        shows _ _ _ _ codes refl refl codes′ (answering .pairs words codes schedules) (b .shows) (b .codes-at-exit),
+        shows _ _ _ _ schedules refl refl schedules′ (answering .pairs words codes schedules) (b .shows) (b .schedules-at-exit),
       );
       glass-insert = λ words code schedule second r second′ b.
-          shown _ _ _ _ second refl refl _ r second′ (answering .insert words code schedule _) (b .shows) (b .second-at-exit);
+          shows _ _ _ _ second refl refl second′ (answering .insert words code schedule _) (b .shows) (b .second-at-exit);
       glass-remove = λ words code second r second′ b.
-          shown _ _ _ _ second refl refl _ r second′ (answering .remove words code _) (b .shows) (b .second-at-exit);
+          shows _ _ _ _ second refl refl second′ (answering .remove words code _) (b .shows) (b .second-at-exit);
+      glass-read-list = λ text codes schedules r codes′ schedules′ b. (
+        shows-size _ _ _ _ codes refl refl codes′ (answering .read-list text _ _) (b .shows) (b .codes-at-exit),
+        shows-size _ _ _ _ schedules refl refl schedules′ (answering .read-list text _ _) (b .shows) (b .schedules-at-exit),
+      );
+      glass-write-list = λ codes schedules text r text′ b.
+          shows-size _ _ _ _ text refl refl text′ (answering .write-list codes schedules _) (b .shows) (b .text-at-exit);
     }

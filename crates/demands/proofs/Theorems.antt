@@ -1,10 +1,11 @@
 -- Every record of specs/Theorems.antt, by its proof.
-use Rattle.demands.specs.Theorems.{Answering, Keeping, Exporting, Reading, Building, Editing}
+use Rattle.demands.specs.Theorems.{Answering, Keeping, Exporting, Reading, Building, Editing, Texts}
 use Rattle.demands.proofs.Answering as on-answers
 use Rattle.demands.proofs.Keeping as on-refusals
 use Rattle.demands.proofs.Reading as on-reading
 use Rattle.demands.proofs.Building as on-building
 use Rattle.demands.proofs.Editing as on-editing
+use Rattle.demands.proofs.Texts as on-texts
 
 -- demand 1: what each operation answers, and that a refusal keeps lent memory
 pub answering : Answering
@@ -27,3 +28,7 @@ building = on-building.building
 -- put in, take out
 pub editing : Editing
 editing = on-editing.editing
+
+-- suppliers' lists as text
+pub texts : Texts
+texts = on-texts.texts

@@ -6,7 +6,6 @@ use mathlib.Core.Logic.{_⊎_}
 use mathlib.Core.Path.{_≡_}
 use lib.Dec.{eqb}
 use Rattle.table.specs.Answers.{Answer, given, absent, unknown, refused, over}
-use Rattle.table.specs.declared.answers.Numbered.{Numbered}
 use Rattle.table.specs.Pairs.{among}
 
 -- a refusal
@@ -41,10 +40,11 @@ PanelAnswer n (unknown i) = i < n
 PanelAnswer n (refused number value) =
     ((31 ≤ number) × (number ≤ 34) × (value < n)) ⊎ ((35 ≤ number) × (number ≤ 36) × (value ≡ 0))
 
--- what C sees of a call that fills lent memory: with the number 0 this value, and the memory filled; with any other number the memory as it was
-abbrev pub FilledOrKept : Numbered → ℕ → List ℕ → List ℕ → List ℕ → Type 0
-FilledOrKept r value new old old′ =
-    (r .number ≡ 0 → (r .value ≡ value) × (old′ ≡ over new old)) × ((r .number ≡ 0 → ⊥) → old′ ≡ old)
+-- what C sees of a call that fills lent memory, by the number and the value shown: with 0 this value, and the memory filled; with any other number the
+-- memory as it was
+abbrev pub FilledOrKept : ℕ → ℕ → ℕ → List ℕ → List ℕ → List ℕ → Type 0
+FilledOrKept number shown value new old old′ =
+    (number ≡ 0 → (shown ≡ value) × (old′ ≡ over new old)) × ((number ≡ 0 → ⊥) → old′ ≡ old)
 
 -- an answer with one refusal's number read as another
 unfoldable pub readAs : ℕ → ℕ → Answer → Answer

@@ -1,5 +1,5 @@
 -- What the theorems speak of: other orders of a list, the right answer to a code, and the words that settle it.
-use Prim.Native.Nat.{ℕ, _+_, _*_, _-_, _<_}
+use Prim.Native.Nat.{ℕ, _+_, _*_, _-_, _<_, _≤_}
 use mathlib.Core.Bool.{cond}
 use mathlib.Core.List.{List, [], _∷_, _++_}
 use mathlib.Core.Path.{_≡_}
@@ -46,3 +46,7 @@ lookedAt p words code =
     ∷ cond (ltb (blockStart words (blockOf p words code)) (blockEnd words (blockOf p words code)))
     ((3 + 2 * codeCount words + ownCell p words code) ∷ (3 + 2 * codeCount words + cellCount words + ownCell p words code) ∷ [])
     []))
+
+-- every number of a list is a word
+abbrev pub AllWords : List ℕ → Type 0
+AllWords numbers = (i : ℕ) → i < length numbers → getD numbers i 0 ≤ 4294967295

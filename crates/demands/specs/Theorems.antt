@@ -1,4 +1,4 @@
--- The demands on the product, as theorems of the definitions that its contracts cite: prime 65,537, at most 2,048 pairs.
+-- The demands on the product, and the laws of document 02, as theorems of the definitions that its contracts cite: prime 65,537, at most 2,048 pairs.
 -- Statements only; proofs/Theorems.antt has a value of each record.
 use Prim.Native.Nat.{ℕ, _+_, _*_, _<_, _≤_}
 use mathlib.Core.Bool.{cond}
@@ -9,23 +9,27 @@ use lib.Dec.{eqb, leb}
 use lib.ListN.{length, getD, take, drop}
 use Rattle.hash.specs.Hash.{load, members, together, sum, cells}
 use Rattle.hash.specs.Theorems.{Least}
-use Rattle.table.specs.Answers.{Answer, given, absent, over}
+use Rattle.table.specs.Answers.{Answer, given, absent, refused, over}
 use Rattle.table.specs.Words.{codeCount, cellCount, multiplier, total, blockStart, blockEnd, blockMultiplier, cellCode, cellSchedule, ownCell}
 use Rattle.table.specs.TwoLevel.{wordsNeeded, tableOf}
 use Rattle.table.specs.Lookup.{lookupOf}
 use Rattle.table.specs.declared.answers.Numbered.{Numbered}
+use Rattle.table.specs.declared.answers.NumberedSize.{NumberedSize}
 use Rattle.panel.specs.Panel.{panelOf}
 use Rattle.audit.specs.Check.{checkOf}
 use Rattle.audit.specs.WellFormed.{WellFormed}
-use Rattle.table.specs.Pairs.{Pair, codesOf, schedulesOf}
+use Rattle.table.specs.Pairs.{Pair, codesOf, schedulesOf, paired}
 use Rattle.reader.specs.Pairs.{pairsIn, pairsOf, PairsRead}
 use Rattle.builder.specs.Build.{buildOf, builtWords, Built}
 use Rattle.editor.specs.Edit.{without, withPair, tableOfPairs, insertOf, removeOf, Inserted, Removed}
 use Rattle.files.specs.Bytes.{wordsOf}
 use Rattle.listing.specs.Listing.{fileOf}
-use Rattle.glass_c.specs.Exports.{BuildShown, PairsShown, InsertShown, RemoveShown}
+use Rattle.suppliers.specs.Text.{Line, TextOf, linesOf, pairsOfText}
+use Rattle.suppliers.specs.Lists.{readListOf, ListRead, listText, writeListOf, ListWritten}
+use Rattle.maker.specs.Making.{madeOf}
+use Rattle.glass_c.specs.Exports.{BuildShown, PairsShown, InsertShown, RemoveShown, ReadListShown, WriteListShown}
 use Rattle.lists.specs.Valid.{Valid}
-use Rattle.demands.specs.Lists.{Listed, SamePairs, rightAnswer, enough, AgreeAt, lookedAt}
+use Rattle.demands.specs.Lists.{Listed, SamePairs, rightAnswer, enough, AgreeAt, lookedAt, AllWords}
 use Rattle.demands.specs.Answered.{IsRefusal, ResultOr, LookupAnswer, PanelAnswer, FilledOrKept, readAs}
 
 -- the refusals of a check: those that come with 0, and the others
@@ -69,6 +73,14 @@ pub record Answering : Type 0 where
       (bytes : List ℕ)
       → ResultOr (codeCount (wordsOf bytes) ∷ total (wordsOf bytes) ∷ []) (61 ∷ 62 ∷ checkAlone) checkValued
       (fileOf 65537 2048 bytes)
+  -- a supplier's text: the number of its lines, or 71 and 72
+  pub read-list :
+      (text : List ℕ) (codes schedules : ℕ)
+      → ResultOr (length (linesOf text) ∷ []) [] (71 ∷ 72 ∷ []) (readListOf text codes schedules)
+  -- a list written as text: the number of its bytes, or 1, 2 and 72
+  pub write-list :
+      (codes schedules : List ℕ) (lent : ℕ)
+      → ResultOr (length (listText codes schedules) ∷ []) (1 ∷ 2 ∷ []) (72 ∷ []) (writeListOf 2048 codes schedules lent)
 
 -- Demand 1: a refusal leaves all lent memory as it was. Each operation that is lent memory, by its contract
 pub record Keeping : Type 0 where
@@ -85,28 +97,43 @@ pub record Keeping : Type 0 where
   pub remove :
       (words : List ℕ) (code : ℕ) (second : List ℕ) (answer : Answer) (second′ : List ℕ)
       → Removed 65537 2048 words code second answer second′ → IsRefusal answer → second′ ≡ second
+  pub read-list :
+      (text codes schedules : List ℕ) (answer : Answer) (codes′ schedules′ : List ℕ)
+      → ListRead text codes schedules answer codes′ schedules′ → IsRefusal answer → (codes′ ≡ codes) × (schedules′ ≡ schedules)
+  pub write-list :
+      (codes schedules text : List ℕ) (answer : Answer) (text′ : List ℕ)
+      → ListWritten 2048 codes schedules text answer text′ → IsRefusal answer → text′ ≡ text
 
 -- the same of the C exports: the number 0 is a result with its value and memory, and any other number leaves the memory as it was
 pub record Exporting : Type 0 where
   pub glass-build :
       (codes schedules words : List ℕ) (r : Numbered) (words′ : List ℕ)
       → BuildShown 65537 2048 codes schedules words r words′
-      → FilledOrKept r (wordsNeeded 65537 codes) (tableOf 65537 codes schedules) words words′
+      → FilledOrKept (r .number) (r .value) (wordsNeeded 65537 codes) (tableOf 65537 codes schedules) words words′
   pub glass-pairs :
       (words codes schedules : List ℕ) (r : Numbered) (codes′ schedules′ : List ℕ)
       → PairsShown 65537 2048 words codes schedules r codes′ schedules′
-      → FilledOrKept r (codeCount words) (codesOf (pairsIn words)) codes codes′
-      × FilledOrKept r (codeCount words) (schedulesOf (pairsIn words)) schedules schedules′
+      → FilledOrKept (r .number) (r .value) (codeCount words) (codesOf (pairsIn words)) codes codes′
+      × FilledOrKept (r .number) (r .value) (codeCount words) (schedulesOf (pairsIn words)) schedules schedules′
   pub glass-insert :
       (words : List ℕ) (code schedule : ℕ) (second : List ℕ) (r : Numbered) (second′ : List ℕ)
       → InsertShown 65537 2048 words code schedule second r second′
       → let changed = withPair code schedule (pairsIn words) in
-      FilledOrKept r (wordsNeeded 65537 (codesOf changed)) (tableOfPairs 65537 changed) second second′
+      FilledOrKept (r .number) (r .value) (wordsNeeded 65537 (codesOf changed)) (tableOfPairs 65537 changed) second second′
   pub glass-remove :
       (words : List ℕ) (code : ℕ) (second : List ℕ) (r : Numbered) (second′ : List ℕ)
       → RemoveShown 65537 2048 words code second r second′
       → let changed = without code (pairsIn words) in
-      FilledOrKept r (wordsNeeded 65537 (codesOf changed)) (tableOfPairs 65537 changed) second second′
+      FilledOrKept (r .number) (r .value) (wordsNeeded 65537 (codesOf changed)) (tableOfPairs 65537 changed) second second′
+  pub glass-read-list :
+      (text codes schedules : List ℕ) (r : NumberedSize) (codes′ schedules′ : List ℕ)
+      → ReadListShown text codes schedules r codes′ schedules′
+      → FilledOrKept (r .number) (r .value) (length (linesOf text)) (codesOf (pairsOfText text)) codes codes′
+      × FilledOrKept (r .number) (r .value) (length (linesOf text)) (schedulesOf (pairsOfText text)) schedules schedules′
+  pub glass-write-list :
+      (codes schedules text : List ℕ) (r : NumberedSize) (text′ : List ℕ)
+      → WriteListShown 2048 codes schedules text r text′
+      → FilledOrKept (r .number) (r .value) (length (listText codes schedules)) (listText codes schedules) text text′
 
 -- the check accepts a table
 abbrev pub Accepted : List ℕ → Type 0
@@ -297,3 +324,63 @@ pub record Editing : Type 0 where
       → MayTakeOut words code → Removed 65537 2048 words code second (given (total ∷ [])) second′
       → (a : ℕ) → 1 ≤ a → a ≤ 65536
       → lookupOf 65537 2048 second′ a ≡ cond (eqb a code) absent (lookupOf 65537 2048 words a)
+
+-- Document 02, Change 1: suppliers' lists as text
+pub record Texts : Type 0 where
+  -- an empty text is the empty list
+  pub empty : TextOf [] []
+  -- a text is refused by 71 exactly if it is no text of a list
+  pub faulty-exactly :
+      (text : List ℕ) (codes schedules : ℕ)
+      → ((line : ℕ) × (readListOf text codes schedules ≡ refused 71 line)) ↔ ((pairs : List Pair) → TextOf pairs text → ⊥)
+  -- with the first of its lines that is not that of a pair
+  pub first-faulty :
+      (text : List ℕ) (codes schedules line : ℕ) → readListOf text codes schedules ≡ refused 71 line
+      → (line < length (linesOf text))
+      × ((i : ℕ) → i < line → (r : Pair) × Line (getD (linesOf text) i []) r)
+      × ((r : Pair) → Line (getD (linesOf text) line []) r → ⊥)
+  -- a text of a list is refused by 72, with the number of its pairs, exactly if either array has fewer places
+  pub too-many :
+      (pairs : List Pair) (text : List ℕ) (codes schedules : ℕ) → TextOf pairs text
+      → (readListOf text codes schedules ≡ refused 72 (length pairs)) ↔ ((codes < length pairs) ⊎ (schedules < length pairs))
+  -- otherwise it is read: the number of its pairs, and the pairs, in their order, in the first places
+  pub reads :
+      (pairs : List Pair) (text codes schedules : List ℕ) (answer : Answer) (codes′ schedules′ : List ℕ) → TextOf pairs text
+      → length pairs ≤ length codes → length pairs ≤ length schedules → ListRead text codes schedules answer codes′ schedules′
+      → (answer ≡ given (length pairs ∷ [])) × (codes′ ≡ over (codesOf pairs) codes) × (schedules′ ≡ over (schedulesOf pairs) schedules)
+  -- there is one text for one list, and one list for one text
+  pub one-text : (pairs : List Pair) (text other : List ℕ) → TextOf pairs text → TextOf pairs other → text ≡ other
+  pub one-list : (pairs others : List Pair) (text : List ℕ) → TextOf pairs text → TextOf others text → pairs ≡ others
+  -- a list of at most 2,048 pairs, any words, is written into enough bytes, 22 for each pair: its text
+  pub writes :
+      (codes schedules text : List ℕ) (answer : Answer) (text′ : List ℕ) → length schedules ≡ length codes → length codes ≤ 2048
+      → 22 * length codes ≤ length text → ListWritten 2048 codes schedules text answer text′
+      → (answer ≡ given (length (listText codes schedules) ∷ [])) × (text′ ≡ over (listText codes schedules) text)
+  pub writes-text :
+      (codes schedules : List ℕ) → AllWords codes → AllWords schedules → TextOf (paired codes schedules) (listText codes schedules)
+  -- a list that is written is read again as the same list, in its order, into any arrays that are long enough
+  pub written-read :
+      (codes schedules text : List ℕ) (bytes : ℕ) (text′ : List ℕ) → AllWords codes → AllWords schedules
+      → ListWritten 2048 codes schedules text (given (bytes ∷ [])) text′
+      → (codes₀ schedules₀ : List ℕ) (answer : Answer) (codes′ schedules′ : List ℕ)
+      → length codes ≤ length codes₀ → length codes ≤ length schedules₀
+      → ListRead (take bytes text′) codes₀ schedules₀ answer codes′ schedules′
+      → (answer ≡ given (length codes ∷ [])) × (codes′ ≡ over codes codes₀) × (schedules′ ≡ over schedules schedules₀)
+  -- a text that is read is written again as the same bytes, into any bytes that are enough
+  pub read-written :
+      (text codes schedules : List ℕ) (n : ℕ) (codes′ schedules′ : List ℕ)
+      → ListRead text codes schedules (given (n ∷ [])) codes′ schedules′ → n ≤ 2048
+      → (text₀ : List ℕ) (answer : Answer) (text′ : List ℕ) → length text ≤ length text₀
+      → ListWritten 2048 (take n codes′) (take n schedules′) text₀ answer text′
+      → (answer ≡ given (length text ∷ [])) × (text′ ≡ over text text₀)
+  -- a text of a valid list, read and built, gives the table of that list
+  pub read-built :
+      (pairs : List Pair) (text codes schedules : List ℕ) (n : ℕ) (codes′ schedules′ words : List ℕ) (answer : Answer) (words′ : List ℕ)
+      → TextOf pairs text → Valid 65537 2048 (codesOf pairs) (schedulesOf pairs)
+      → ListRead text codes schedules (given (n ∷ [])) codes′ schedules′ → enough n ≤ length words
+      → Built 65537 2048 (take n codes′) (take n schedules′) words answer words′
+      → (answer ≡ given (wordsNeeded 65537 (codesOf pairs) ∷ [])) × BeginsWithTable (codesOf pairs) (schedulesOf pairs) words′
+  -- the program that makes a table file makes of it the file whose words are that table
+  pub made-file :
+      (pairs : List Pair) (text : List ℕ) → TextOf pairs text → Valid 65537 2048 (codesOf pairs) (schedulesOf pairs)
+      → wordsOf (madeOf 65537 2048 text) ≡ tableOf 65537 (codesOf pairs) (schedulesOf pairs)
