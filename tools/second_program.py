@@ -1,26 +1,61 @@
 #!/usr/bin/env python3
-"""A second implementation of the build of document 01, to compare the proved one with.
+"""A second implementation of the build of document 01 and of lists as text (document 02, Change 1), to compare the
+proved ones with.
 
-Written from the paper alone, with the standard library alone.
+Written from the papers alone, with the standard library alone.
 
   tools/second_program.py make
-      writes the stored input and expected output of the program `compare`
+      writes the stored input and expected output of the programs `compare`, `compare_texts` and `make_*`
   tools/second_program.py fresh SEED COUNT PROGRAM
-      makes COUNT lists from SEED, runs PROGRAM on them and compares what it prints
+      makes COUNT lists from SEED, runs PROGRAM (`compare`) on them and compares what it prints
+  tools/second_program.py fresh-texts SEED COUNT PROGRAM
+      makes COUNT texts to read and lists to write from SEED, runs PROGRAM (`compare_texts`) on them and compares
+      what it prints
+  tools/second_program.py fresh-tables SEED COUNT PROGRAM
+      makes COUNT texts from SEED, runs PROGRAM (`make_table`) on each and compares what it prints
 
-Input of `compare`: for each list n, then n codes, then n schedules, each four bytes, least first.
+All numbers of an input are four bytes, least first.
+
+Input of `compare`: for each list n, then n codes, then n schedules.
 Output: a line for each list, once for the list's order and once for the reverse: all words of its table where it has
 at most SHORT pairs, otherwise `n c k total digest`.
+
+Input of `compare_texts`, one case after the other:
+  0, the lent codes and the lent schedules (how many), the bytes of the text (how many), the text: it is read
+  1, the codes and the schedules (how many), the lent bytes (how many), the codes, the schedules: they are written
+Code i is lent as OLD_CODE + i, schedule i as OLD_SCHEDULE + i, byte i as i mod OLD_BYTES.
+Output:
+  `read NUMBER VALUE DIGEST DIGEST`, the digests of all lent codes and of all lent schedules after the call, and on the
+  same line the pairs, each as `code,schedule`, where there are at most SHORT
+  `written NUMBER VALUE DIGEST`, the digest of all lent bytes after the call, and below it the text, where it has at
+  most SHORT_TEXT bytes
 """
+import collections
 import pathlib
 import random
+import re
 import struct
 import subprocess
 import sys
+import typing
 
 P = 65537
+MOST_PAIRS = 2048
+MOST_NUMBER = 4294967295
+MOST_FILE = 65536
+
 SHORT = 32
-FOLDER = pathlib.Path(__file__).resolve().parent.parent / "crates" / "compare"
+SHORT_TEXT = 256
+OLD_CODE = 7000000
+OLD_SCHEDULE = 8000000
+OLD_BYTES = 251
+# what `compare_texts` has room for
+MOST_PLACES = 4096
+MOST_TEXT = 65536
+
+CRATES = pathlib.Path(__file__).resolve().parent.parent / "crates"
+
+# ---- a table
 
 
 def block_loads(codes, k):
@@ -64,17 +99,170 @@ def build(pairs):
     return [n, len(cells), k] + starts + multipliers + cells + [schedule.get(a, 0) for a in cells]
 
 
-def digest(words):
+def build_refused(pairs):
+    """The number and the value of a build's refusal by 3, 4 or 5, None for a valid list."""
+    codes = [a for a, _ in pairs]
+    faults = [
+        (3, [not 1 <= a < P for a in codes]),
+        (4, [not 1 <= s <= 999 for _, s in pairs]),
+        (5, [a in codes[:i] for i, a in enumerate(codes)]),
+    ]
+    return next(((number, where.index(True)) for number, where in faults if True in where), None)
+
+
+# ---- a list as text
+
+
+def text_of(pairs):
+    return b"".join(b"%d,%d\n" % pair for pair in pairs)
+
+
+def write_list(codes, schedules, lent):
+    """The number, the value and the text of writing a list into lent bytes; no text where it is refused."""
+    if len(codes) != len(schedules):
+        return 1, 0, b""
+    if len(codes) > MOST_PAIRS:
+        return 2, 0, b""
+    text = text_of(zip(codes, schedules))
+    return (72, len(text), b"") if len(text) > lent else (0, len(text), text)
+
+
+NUMBER = rb"(0|[1-9][0-9]*)"
+LINE = re.compile(NUMBER + b"," + NUMBER)
+
+
+def pair_of(line):
+    """The pair of a line without its newline, None for a faulty one."""
+    fields = LINE.fullmatch(line)
+    pair = tuple(map(int, fields.groups())) if fields else (MOST_NUMBER + 1,)
+    return pair if max(pair) <= MOST_NUMBER else None
+
+
+def read_list(text, code_places, schedule_places):
+    """The number, the value and the pairs of reading a text into lent places; no pairs where it is refused."""
+    *lines, rest = text.split(b"\n")
+    pairs = [pair_of(line) for line in lines]
+    if None in pairs:
+        return 71, pairs.index(None), []
+    if rest:
+        return 71, len(lines), []
+    if len(lines) > min(code_places, schedule_places):
+        return 72, len(lines), []
+    return 0, len(lines), pairs
+
+
+def table_file(text):
+    """What `make_table` prints of a text: the bytes of a table, or the line of a refusal."""
+    number, value, pairs = read_list(text, MOST_PAIRS, MOST_PAIRS)
+    if len(text) > MOST_FILE:
+        number, value = 61, 0
+    elif number == 0:
+        number, value = build_refused(pairs) or (0, 0)
+    return b"refused %d %d\n" % (number, value) if number else packed(build(pairs))
+
+
+# ---- what the programs read and print
+
+
+def packed(numbers):
+    return struct.pack(f"<{len(numbers)}I", *numbers)
+
+
+def digest(numbers):
     d = 0
-    for w in words:
-        d = (d * 65599 + w + 1) % 4294967291
+    for x in numbers:
+        d = (d * 65599 + x + 1) % 4294967291
     return d
 
 
-def line(pairs):
-    words = build(pairs)
-    shown = words if len(pairs) <= SHORT else words[:3] + [len(words), digest(words)]
-    return " ".join(map(str, shown)) + "\n"
+def head(kind, codes, schedules, text):
+    """The numbers that begin a case of `compare_texts`."""
+    assert max(codes, schedules) <= MOST_PLACES and text <= MOST_TEXT
+    return packed([kind, codes, schedules, text])
+
+
+def filled(new, old):
+    """Lent memory whose first places are filled."""
+    return list(new) + list(old)[len(new):]
+
+
+class Built(typing.NamedTuple):
+    """A list that `compare` builds."""
+
+    pairs: list
+
+    def encoded(self):
+        return packed([len(self.pairs)] + [a for a, _ in self.pairs] + [s for _, s in self.pairs])
+
+    def number(self):
+        return 0
+
+    def expected(self):
+        words = build(self.pairs)
+        shown = words if len(self.pairs) <= SHORT else words[:3] + [len(words), digest(words)]
+        return (" ".join(map(str, shown)) + "\n").encode() * 2
+
+
+class Read(typing.NamedTuple):
+    """A text that `compare_texts` reads."""
+
+    code_places: int
+    schedule_places: int
+    text: bytes
+
+    def encoded(self):
+        return head(0, self.code_places, self.schedule_places, len(self.text)) + self.text
+
+    def answer(self):
+        return read_list(self.text, self.code_places, self.schedule_places)
+
+    def number(self):
+        return self.answer()[0]
+
+    def expected(self):
+        number, value, pairs = self.answer()
+        codes = filled([a for a, _ in pairs], range(OLD_CODE, OLD_CODE + self.code_places))
+        schedules = filled([s for _, s in pairs], range(OLD_SCHEDULE, OLD_SCHEDULE + self.schedule_places))
+        shown = pairs if len(pairs) <= SHORT else []
+        line = ["read", number, value, digest(codes), digest(schedules)] + ["%d,%d" % pair for pair in shown]
+        return (" ".join(map(str, line)) + "\n").encode()
+
+
+class Written(typing.NamedTuple):
+    """A list that `compare_texts` writes."""
+
+    codes: list
+    schedules: list
+    lent: int
+
+    def encoded(self):
+        return head(1, len(self.codes), len(self.schedules), self.lent) + packed(self.codes + self.schedules)
+
+    def answer(self):
+        return write_list(self.codes, self.schedules, self.lent)
+
+    def number(self):
+        return self.answer()[0]
+
+    def expected(self):
+        number, value, text = self.answer()
+        all_bytes = filled(text, [i % OLD_BYTES for i in range(self.lent)])
+        line = "written %d %d %d\n" % (number, value, digest(all_bytes))
+        return line.encode() + (text if len(text) <= SHORT_TEXT else b"")
+
+
+def encoded(cases):
+    return b"".join(case.encoded() for case in cases)
+
+
+def expected(cases):
+    return b"".join(case.expected() for case in cases)
+
+
+# ---- lists to build
+
+
+P5 = [(4, 11), (7, 12), (8, 13), (17, 14), (20, 15)]
 
 
 def paper_lists():
@@ -84,7 +272,7 @@ def paper_lists():
         [(65536, 999)],
         [(2, 1), (6, 2)],
         [(3, 31), (6, 32), (9, 33)],
-        [(4, 11), (7, 12), (8, 13), (17, 14), (20, 15)],
+        P5,
     ]
 
 
@@ -140,31 +328,260 @@ def stored_lists():
     return paper_lists() + pairs + [with_schedules(r, codes) for codes in full] + random_lists(1, 320)
 
 
-def encoded(lists):
-    out = bytearray()
-    for pairs in lists:
-        numbers = [len(pairs)] + [a for a, _ in pairs] + [s for _, s in pairs]
-        out += struct.pack(f"<{len(numbers)}I", *numbers)
-    return bytes(out)
+# ---- texts to read, lists to write
+
+# a faulty line without its newline, of a code a and a schedule s
+FAULTY = [
+    # blanks and other bytes that are not seen
+    "{a},{s}\r", "\r{a},{s}", " {a},{s}", "{a} ,{s}", "{a}, {s}", "{a},{s} ", "1 2,{s}", "{a},1 2", "\t{a},{s}", "{a},{s}\t",
+    " ", "\r",
+    "\0{a},{s}", "{a}\0,{s}", "{a},{s}\0", "\0", "\ufeff{a},{s}",
+    # signs and leading zeros
+    "+{a},{s}", "{a},+{s}", "-{a},{s}", "{a},-{s}", "-0,{s}", "{a},-0",
+    "00,{s}", "{a},00", "01,{s}", "{a},01", "007,{s}", "{a},007", "0{a},{s}", "{a},0{s}", "00000000000,{s}", "{a},00000000001",
+    # numbers missing, commas missing, too many or other bytes
+    "", ",", "{a},", ",{s}", "{a}", "{a}{s}", "{a},,{s}", ",{a},{s}", "{a},{s},", "{a},{s},{a}", "{a};{s}", "{a}.{s}", "{a}-{s}",
+    # bytes beside the digits, letters, bytes above 127
+    ":,{s}", "/,{s}", "{a}:,{s}", "{a}/,{s}", "{a},:", "{a},/", "{a},{s}:", "{a},{s}/", "/{a},{s}", ":{a},{s}",
+    "a,{s}", "{a},b", "1e3,{s}", "0x1f,{s}", "{a},{s}f", "code,schedule",
+    "{a},\x7f", "{a}\x80,{s}", "\xff", "\xb1,{s}", "{a},\xb9", "{a}\xac{s}", "{a},{s}\x8a",
+    # numbers too large
+    "4294967296,{s}", "{a},4294967296", "4294967297,{s}", "{a},4294967305", "4300000000,{s}", "{a},5000000000", "9999999999,{s}",
+    "{a},9999999999", "10000000000,{s}", "{a},10000000000", "42949672950,{s}", "{a},18446744073709551616", "18446744073709551623,{s}",
+    "{a},99999999999999999999", "1{zeros},{s}", "{a},1{zeros}", "{nines},{s}", "{a},{nines}",
+]
 
 
-def expected(lists):
-    return "".join(line(pairs) * 2 for pairs in lists).encode()
+def any_number(r):
+    """A number of any length: the first and the last of a length are often among them."""
+    low = 10 ** r.randrange(10)
+    ends = [0, 1, low, min(10 * low - 1, MOST_NUMBER), MOST_NUMBER - 1, MOST_NUMBER]
+    return r.choice(ends) if r.random() < 0.4 else r.randrange(low - 1, min(10 * low, MOST_NUMBER + 1))
+
+
+def any_pairs(r, n):
+    return [(any_number(r), any_number(r)) for _ in range(n)]
+
+
+def faulty_line(r, shape):
+    a, s = r.randint(1, 65536), r.randint(1, 999)
+    line = shape.format(a=a, s=s, zeros="0" * 59, nines="9" * 60) + "\n"
+    return line.encode("utf-8" if "\ufeff" in shape else "latin-1")
+
+
+def good_lines(r, n):
+    return [text_of([pair]) for pair in any_pairs(r, n)]
+
+
+def with_line(lines, at, line):
+    """A text of lines, with one more line before the one with index `at`."""
+    return b"".join(lines[:at] + [line] + lines[at:])
+
+
+def enough(text):
+    """Places for any line of a text, faulty or not."""
+    return text.count(b"\n") + 1
+
+
+def valid_reads(r, count):
+    """Texts of 0 to 40 lines; in turn places that are exactly enough, more, and one fewer in either or both arrays."""
+    cases = []
+    for turn in range(count):
+        n = (0, 1, 2, r.randint(0, 8), r.randint(3, 16), r.randint(0, 40))[turn % 6]
+        codes, schedules = [(0, 0), (r.randint(1, 9), r.randint(1, 9)), (-1, 0), (0, -1), (-1, -1), (r.randint(1, 9), 0), (-n, 0)][turn % 7]
+        cases.append(Read(max(n + codes, 0), max(n + schedules, 0), text_of(any_pairs(r, n))))
+    return cases
+
+
+def faulty_reads(r, shapes):
+    """For each shape the faulty line by itself, first, in the middle and last; and with too few places."""
+    cases = []
+    for shape in shapes:
+        line = faulty_line(r, shape)
+        lines = good_lines(r, r.randint(2, 6))
+        texts = [line] + [with_line(lines, at, line) for at in (0, len(lines) // 2, len(lines))]
+        cases += [Read(enough(text), enough(text) + r.randint(0, 2), text) for text in texts]
+        cases.append(Read(r.randint(0, 1), r.randint(0, 1), texts[r.randrange(4)]))
+    return cases
+
+
+def twice_faulty_reads(r, count):
+    cases = []
+    for _ in range(count):
+        lines = good_lines(r, r.randint(0, 6))
+        for _ in range(2):
+            lines.insert(r.randint(0, len(lines)), faulty_line(r, r.choice(FAULTY)))
+        text = b"".join(lines)
+        cases.append(Read(r.choice([0, enough(text)]), enough(text), text))
+    return cases
+
+
+def cut_reads(r, count):
+    """Texts whose last line is not ended: a whole text without its last byte, or cut anywhere."""
+    cases = []
+    for turn in range(count):
+        text = b"".join(good_lines(r, r.randint(1, 5)))
+        text = text[: -1 if turn % 2 else r.randint(1, len(text))]
+        cases.append(Read(enough(text), r.choice([0, enough(text)]), text))
+    return cases + [Read(2, 2, b"1,2\n" + rest) for rest in (b"\r", b" ", b"\0", b"0", b",", b"3,", b"3,4", b"03,4", b"4294967296,1")]
+
+
+def changed_reads(r, count):
+    """Texts of good lines with one byte changed, put in or taken out."""
+    cases = []
+    for _ in range(count):
+        text = bytearray(b"".join(good_lines(r, r.randint(1, 5))))
+        at = r.randrange(len(text))
+        byte = r.choice([r.randrange(256), r.choice(b"0123456789,\n\r /:+-\0")])
+        text[at : at + r.randint(0, 1)] = r.choice([b"", bytes([byte])])
+        cases.append(Read(enough(text), enough(text), bytes(text)))
+    return cases
+
+
+def every_byte_reads():
+    """Each byte between two numbers, before them and after them."""
+    return [Read(2, 3, text) for b in range(256) for text in (b"1%c2\n" % b, b"%c3,4\n" % b, b"5,6%c\n" % b)]
+
+
+def long_reads(r):
+    """Texts of about MOST_PAIRS lines: reading has no limit but the places."""
+    pairs = [(r.randint(1, 65536), r.randint(1, 999)) for _ in range(2100)]
+    text = text_of(pairs[:MOST_PAIRS])
+    return [
+        Read(MOST_PAIRS, MOST_PAIRS, text),
+        Read(2100, 2101, text_of(pairs)),
+        Read(MOST_PAIRS, 2100, text_of([(i % 10, i % 7) for i in range(MOST_PAIRS + 1)])),
+    ]
+
+
+def writes(r, count):
+    """Lists of 0 to 30 pairs; in turn lent bytes that are exactly enough, one too few, more and any number; some lengths differ."""
+    cases = []
+    for turn in range(count):
+        pairs = any_pairs(r, (0, 1, 2, r.randint(1, 8), r.randint(0, 30))[turn % 5])
+        codes, schedules = [a for a, _ in pairs], [s for _, s in pairs]
+        needed = len(text_of(pairs))
+        lent = (needed, max(needed - 1, 0), needed + r.randint(1, 40), r.randint(0, needed + 1))[turn % 4]
+        if turn % 6 == 5:
+            (codes if r.random() < 0.5 else schedules).append(any_number(r))
+        cases.append(Written(codes, schedules, lent))
+    return cases
+
+
+def long_writes(r):
+    """2,048 pairs, in the bytes that they need and in one fewer; 2,049, by 2 before 72; lengths that differ, by 1 before 2."""
+    pairs = any_pairs(r, MOST_PAIRS)
+    codes, schedules = [a for a, _ in pairs], [s for _, s in pairs]
+    largest = [MOST_NUMBER] * MOST_PAIRS
+    return [
+        Written(codes, schedules, len(text_of(pairs))),
+        Written(largest, largest, 22 * MOST_PAIRS - 1),
+        Written(codes + [1], schedules + [1], 0),
+        Written(codes + [1], schedules, 0),
+    ]
+
+
+def stored_texts():
+    r = random.Random(71)
+    reads = [Read(p, q, b"") for p, q in ((0, 0), (0, 3), (3, 0), (2, 2))] + [Read(p, p, b"\n") for p in (0, 1)]
+    reads += valid_reads(r, 140) + faulty_reads(r, FAULTY) + twice_faulty_reads(r, 60) + cut_reads(r, 40) + changed_reads(r, 160)
+    return reads + every_byte_reads() + long_reads(r) + writes(r, 120) + long_writes(r)
+
+
+def random_texts(seed, count):
+    r = random.Random(seed)
+    makers = [
+        valid_reads, twice_faulty_reads, cut_reads, changed_reads, writes, lambda r, count: faulty_reads(r, r.choices(FAULTY, k=count)),
+    ]
+    cases = []
+    while len(cases) < count:
+        cases += r.choice(makers)(r, 40)
+    return cases[:count]
+
+
+# ---- texts to make tables of
+
+
+def random_studio_texts(seed, count):
+    """Texts of lists, of which some are faulty or have pairs that a build refuses."""
+    r = random.Random(seed)
+    texts = []
+    for pairs in random_lists(seed, count):
+        lines = [text_of([pair]) for pair in pairs]
+        fault = r.randrange(8)
+        if fault == 0:
+            lines.insert(r.randint(0, len(lines)), faulty_line(r, r.choice(FAULTY)))
+        if fault == 1:
+            lines.insert(r.randint(0, len(lines)), text_of([(r.choice([0, P, any_number(r)]), r.choice([0, 1, 1000]))]))
+        if fault == 2 and lines:
+            lines.insert(r.randint(0, len(lines)), r.choice(lines))
+        if fault == 3:
+            lines += [b"%d,1\n" % (1 + i) for i in range(r.choice([2040, 20000]))]
+        texts.append(b"".join(lines))
+    return texts
+
+
+def stored_studio_texts():
+    """By the program that makes a table of each."""
+    return {
+        "make_table": text_of([(17, 14), (4, 11), (20, 15), (7, 12), (8, 13)]),
+        "make_refused": b"4,11\n7,12\n08,13\n17,14\n20,15\n",
+        "make_repeated": text_of([(4, 11), (7, 12), (8, 13), (7, 14), (20, 15)]),
+    }
+
+
+# ---- the stored files, and fresh cases
+
+
+def store(program, given, answered):
+    folder = CRATES / program
+    folder.mkdir(parents=True, exist_ok=True)
+    (folder / "stdin").write_bytes(given)
+    (folder / "stdout").write_bytes(answered)
+
+
+def counted(cases):
+    """How many cases of each kind answer each number."""
+    counts = collections.Counter((type(case).__name__.lower(), case.number()) for case in cases)
+    return ", ".join(f"{kind} {number}: {counts[kind, number]}" for kind, number in sorted(counts))
+
+
+def make():
+    for program, cases in (("compare", [Built(pairs) for pairs in stored_lists()]), ("compare_texts", stored_texts())):
+        store(program, encoded(cases), expected(cases))
+        print(f"{program}: {counted(cases)}")
+    for program, text in stored_studio_texts().items():
+        store(program, text, table_file(text))
+
+
+def printed(program, given):
+    return subprocess.run([program], input=given, stdout=subprocess.PIPE, check=True).stdout
+
+
+def fresh(cases, program):
+    """Whether the program prints what is expected, in parts that it has room for."""
+    parts = [cases[i : i + 2000] for i in range(0, len(cases), 2000)]
+    return all(printed(program, encoded(part)) == expected(part) for part in parts), counted(cases)
+
+
+def fresh_tables(texts, program):
+    return all(printed(program, text) == table_file(text) for text in texts), f"{len(texts)} texts"
+
+
+FRESH = {
+    "fresh": lambda seed, count, program: fresh([Built(pairs) for pairs in random_lists(seed, count)], program),
+    "fresh-texts": lambda seed, count, program: fresh(random_texts(seed, count), program),
+    "fresh-tables": lambda seed, count, program: fresh_tables(random_studio_texts(seed, count), program),
+}
 
 
 def main(words):
     if words == ["make"]:
-        lists = stored_lists()
-        FOLDER.mkdir(parents=True, exist_ok=True)
-        (FOLDER / "stdin").write_bytes(encoded(lists))
-        (FOLDER / "stdout").write_bytes(expected(lists))
-        print(f"{len(lists)} lists, {sum(map(len, lists))} pairs")
+        make()
         return 0
-    if len(words) == 4 and words[0] == "fresh":
-        lists = random_lists(int(words[1]), int(words[2]))
-        got = subprocess.run([words[3]], input=encoded(lists), stdout=subprocess.PIPE, check=True).stdout
-        same = got == expected(lists)
-        print(f"{len(lists)} lists, {sum(map(len, lists))} pairs: {'the same' if same else 'DIFFERENT'}")
+    if len(words) == 4 and words[0] in FRESH:
+        same, what = FRESH[words[0]](int(words[1]), int(words[2]), words[3])
+        print(f"{what}: {'the same' if same else 'DIFFERENT'}")
         return 0 if same else 1
     print(__doc__)
     return 2

@@ -1,7 +1,6 @@
 // Builds each list of its input twice, in the list's order and in the reverse, and prints a line for each table: all its words where the list is short,
 // otherwise n, c, k, the total and a digest of all words. tools/second_program.py makes the input and the lines that are expected. Input: n, n codes and
 // n schedules, four bytes each, least first.
-ghost use Prim.Native.Nat.{_≤_, _<_};
 ghost use mathlib.Core.Path.{_≡_};
 ghost use lib.ListN.{length};
 
@@ -12,9 +11,7 @@ fn wide(x: u8) -> u32 {
     x as u32
 }
 
-fn wide_word(x: u32) -> u64
-    ensures { λ r. ⌜ r < 4294967296 ⌝ }
-{
+fn wide_word(x: u32) -> u64 {
     x as u64
 }
 
@@ -62,16 +59,6 @@ fn reverse(list: &[u32], turned: &mut [u32])
     }
 }
 
-fn digest(words: &[u32]) -> u64 {
-    let mut d: u64 = 0;
-    let mut i: usize = 0;
-    while i < words.len() {
-        d = (d * 65599 + wide_word(words[i]) + 1) % 4294967291;
-        i = i + 1;
-    }
-    d
-}
-
 // The field with index i of a line; a space parts it from the one before.
 fn print_field(i: usize, x: u64) {
     if 0 < i {
@@ -97,7 +84,7 @@ fn print_table(words: &[u32]) {
     } else {
         print_words(&words[..3]);
         print_field(3, words.len() as u64);
-        print_field(4, digest(words));
+        print_field(4, digests::digest_words(words));
     }
     io::write_all(1, b"\n");
 }

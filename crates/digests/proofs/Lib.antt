@@ -1,0 +1,2 @@
+-- A digest taken number by number.
+pub mod DigestLaws

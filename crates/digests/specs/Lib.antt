@@ -1,0 +1,2 @@
+-- The digest of numbers.
+pub mod Digest
