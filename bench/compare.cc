@@ -15,7 +15,9 @@ extern "C" {
     glass_answer prefix##_check(const uint32_t *, size_t);                                                                        \
     glass_answer prefix##_lookup(const uint32_t *, size_t, uint32_t);                                                             \
     glass_answer prefix##_panel(const uint32_t *, size_t, const uint32_t *, size_t);                                              \
-    glass_answer prefix##_pairs(const uint32_t *, size_t, uint32_t *, size_t, uint32_t *, size_t);
+    glass_answer prefix##_pairs(const uint32_t *, size_t, uint32_t *, size_t, uint32_t *, size_t);                                \
+    glass_size prefix##_read_list(const uint8_t *, size_t, uint32_t *, size_t, uint32_t *, size_t);                               \
+    glass_size prefix##_write_list(const uint32_t *, size_t, const uint32_t *, size_t, uint8_t *, size_t);
 DECLARED(yard)
 DECLARED(yardgcc)
 }
@@ -23,6 +25,7 @@ DECLARED(yardgcc)
 namespace {
 
 using Words = std::vector<uint32_t>;
+using Bytes = std::vector<uint8_t>;
 
 struct Functions {
     const char *name;
@@ -31,10 +34,12 @@ struct Functions {
     decltype(&glass_lookup) lookup;
     decltype(&glass_panel) panel;
     decltype(&glass_pairs) pairs;
+    decltype(&glass_read_list) read_list;
+    decltype(&glass_write_list) write_list;
 };
 
 #define FUNCTIONS(name, prefix) \
-    { name, prefix##_build, prefix##_check, prefix##_lookup, prefix##_panel, prefix##_pairs }
+    { name, prefix##_build, prefix##_check, prefix##_lookup, prefix##_panel, prefix##_pairs, prefix##_read_list, prefix##_write_list }
 
 const Functions all[] = {FUNCTIONS("ours", glass), FUNCTIONS("yardstick (clang)", yard), FUNCTIONS("yardstick (gcc)", yardgcc)};
 
@@ -51,19 +56,20 @@ void differ(const char *operation, const char *who, const char *what) {
     std::exit(1);
 }
 
-void same(const char *operation, const char *who, glass_answer a, glass_answer b) {
+// a glass_answer or a glass_size
+template <class Answer> void same(const char *operation, const char *who, Answer a, Answer b) {
     if (a.number == b.number && a.value == b.value) return;
-    std::fprintf(stderr, "%s: ours %u %u, %s %u %u\n", operation, a.number, a.value, who, b.number, b.value);
+    std::fprintf(stderr, "%s: ours %u %zu, %s %u %zu\n", operation, a.number, (size_t)a.value, who, b.number, (size_t)b.value);
     std::exit(1);
 }
 
-// Lent memory stands between words that are not lent.
+// Lent memory stands between elements that are not lent.
 enum { AROUND = 4 };
 
-Words lent(size_t len, Random &r) {
-    Words w(len + 2 * AROUND);
-    for (uint32_t &x : w) x = r.next();
-    return w;
+template <class Element = uint32_t> std::vector<Element> lent(size_t len, Random &r) {
+    std::vector<Element> v(len + 2 * AROUND);
+    for (Element &x : v) x = (Element)r.next();
+    return v;
 }
 
 // The table that ours makes of a list, in any length of lent words; empty where it is refused.
@@ -223,6 +229,102 @@ List any_list(uint32_t turn, Random &r) {
     return l;
 }
 
+// ---- lists as text
+
+// a number of any length
+uint32_t any_number(Random &r) {
+    if (r.below(4)) return r.next() >> r.below(32);
+    const uint32_t ends[] = {0, 1, 9, 10, 99, 100, 65536, 999999999, 1000000000, ~(uint32_t)0 - 1, ~(uint32_t)0};
+    return ends[r.below(sizeof ends / sizeof *ends)];
+}
+
+std::string text_of(const Words &codes, const Words &schedules) {
+    std::string s;
+    for (size_t i = 0; i < codes.size(); i++) s += std::to_string(codes[i]) + "," + std::to_string(schedules[i]) + "\n";
+    return s;
+}
+
+// A byte is changed, put in or taken out, or the text is cut, or a number is longer or has zeros before it.
+void damage(std::string &text, Random &r) {
+    static const char near[] = "0123456789,,\n\n\r /:;+-a";
+    static const char *const numbers[] = {"4294967296", "4294967295", "4294967294", "9999999999", "10000000000", "0", "00", "18446744073709551617"};
+    size_t at = r.below((uint32_t)text.size() + 1);
+    char byte = (char)(r.below(3) ? (uint32_t)near[r.below(sizeof near)] : r.below(256));
+    switch (r.below(6)) {
+    case 0: text.insert(at, 1, byte); break;
+    case 1: text.erase(at, 1); break;
+    case 2: text.resize(at); break;
+    case 3: text.insert(at, numbers[r.below(sizeof numbers / sizeof *numbers)]); break;
+    default:
+        if (at < text.size()) text[at] = byte;
+    }
+}
+
+void texts_read(const std::string &text, size_t codes_len, size_t schedules_len, Random &r) {
+    Bytes given;
+    given.reserve(text.size() + 1); // a pointer that is not null
+    given.assign(text.begin(), text.end());
+    const Bytes given_before = given;
+    const Words codes_before = lent(codes_len, r), schedules_before = lent(schedules_len, r);
+    Words first_codes, first_schedules;
+    glass_size a = {0, 0};
+    for (const Functions &f : all) {
+        Words c = codes_before, s = schedules_before;
+        glass_size b = f.read_list(given.data(), given.size(), c.data() + AROUND, codes_len, s.data() + AROUND, schedules_len);
+        if (&f == all) {
+            a = b, first_codes = c, first_schedules = s;
+            if (a.number && (c != codes_before || s != schedules_before)) changed("read text");
+        }
+        same("read text", f.name, a, b);
+        if (c != first_codes || s != first_schedules) differ("read text", f.name, "the lent arrays");
+        if (given != given_before) differ("read text", f.name, "the text");
+    }
+    seen["read text"][a.number]++;
+}
+
+void texts_written(Words codes, Words schedules, size_t len, Random &r) {
+    codes.reserve(1), schedules.reserve(1); // pointers that are not null
+    const Words codes_before = codes, schedules_before = schedules;
+    const Bytes before = lent<uint8_t>(len, r);
+    Bytes first;
+    glass_size a = {0, 0};
+    for (const Functions &f : all) {
+        Bytes t = before;
+        glass_size b = f.write_list(codes.data(), codes.size(), schedules.data(), schedules.size(), t.data() + AROUND, len);
+        if (&f == all) {
+            a = b, first = t;
+            if (a.number && t != before) changed("write text");
+        }
+        same("write text", f.name, a, b);
+        if (t != first) differ("write text", f.name, "the lent bytes");
+        if (codes != codes_before || schedules != schedules_before) differ("write text", f.name, "the list");
+    }
+    seen["write text"][a.number]++;
+}
+
+// Gives the number of texts that were read.
+uint64_t compare_texts(uint32_t lists) {
+    Random r(71);
+    uint64_t texts = 0;
+    for (uint32_t turn = 0; turn < lists; turn++) {
+        uint32_t n = turn % 1000 == 0 ? 2048 + r.below(2) : turn % 100 == 0 ? r.below(2050) : r.below(20);
+        Words codes, schedules;
+        for (uint32_t i = 0; i < n; i++) codes.push_back(any_number(r)), schedules.push_back(any_number(r));
+        const std::string text = text_of(codes, schedules);
+        texts_read(text, n + r.below(3) - (n && r.below(4) == 0), n + r.below(3) - (n && r.below(4) == 0), r), texts++;
+        for (int i = 0; i < 8; i++, texts++) {
+            std::string t = text;
+            for (uint32_t left = 1 + r.below(2); left > 0; left--) damage(t, r);
+            texts_read(t, n + r.below(3), n + 2, r);
+        }
+        size_t len = text.size() + r.below(4);
+        if (r.below(4) == 0) len = r.below((uint32_t)text.size() + 1);
+        if (r.below(8) == 0) schedules.push_back(1);
+        texts_written(codes, schedules, len, r);
+    }
+    return texts;
+}
+
 } // namespace
 
 std::string compare_all() {
@@ -264,10 +366,13 @@ std::string compare_all() {
         t.reserve(1);
         asked(t, {1, 2, 3}, r);
     }
+    const uint32_t written = 40000;
+    const uint64_t texts = compare_texts(written);
 
     std::string s = grouped(lists) + " lists, " + grouped(damaged) + " damaged tables, " + grouped(other) +
                     " well-formed tables whose multipliers are not least, " + grouped(senseless) + " runs of words that are no table; of " +
-                    grouped(exhaustive) + " tables every code from 0 to 65,538. All answers and all lent memory were equal. ";
+                    grouped(exhaustive) + " tables every code from 0 to 65,538; " + grouped(written) + " lists written as text, " + grouped(texts) +
+                    " texts read, most of them damaged. All answers and all lent memory were equal. ";
     s += "How often each number was answered (0: a result, 1000: absent or unknown):\n\n";
     for (const auto &o : seen) {
         s += "- " + o.first + ":";

@@ -28,6 +28,12 @@ extern "C" {
 structure glass_structure(const char *);
 structure yard_structure(const char *);
 structure yardgcc_structure(const char *);
+#define TEXTS(prefix)                                                                               \
+    glass_size prefix##_read_list(const uint8_t *, size_t, uint32_t *, size_t, uint32_t *, size_t); \
+    glass_size prefix##_write_list(const uint32_t *, size_t, const uint32_t *, size_t, uint8_t *, size_t);
+TEXTS(yard)
+TEXTS(yardgcc)
+TEXTS(plain)
 }
 
 namespace {
@@ -54,11 +60,31 @@ struct Two {
 const Two twos[] = {{"{2, 6}", {2, 6}, {1, 2}}, {"{1, 5}", {1, 5}, {1, 2}}};
 enum { TWOS = 2, TWO_TIMES = 8 };
 
-// ns a query or a code, by round
+// who reads and writes lists as text
+struct TextFunctions {
+    const char *name;
+    decltype(&glass_read_list) read;
+    decltype(&glass_write_list) write;
+};
+const TextFunctions text_functions[] = {{"ours", glass_read_list, glass_write_list},
+                                        {"C, same passes (clang)", yard_read_list, yard_write_list},
+                                        {"C, same passes (gcc)", yardgcc_read_list, yardgcc_write_list},
+                                        {"strtoul, snprintf", plain_read_list, plain_write_list}};
+enum { TEXT_FUNCTIONS = 4 };
+
+// the texts of a row: their lines, and whether codes are any of 32 bits
+struct TextKind {
+    size_t lines;
+    bool any_code;
+};
+const TextKind text_kinds[] = {{1, false}, {16, false}, {256, false}, {2048, false}, {2048, true}};
+enum { TEXT_KINDS = 5 };
+
+// ns a query, a code or a line, by round
 using Series = std::vector<double>;
 
 struct Results {
-    std::vector<Series> of[SIZES][OPERATIONS], structured[SIZES][KINDS], two[TWOS];
+    std::vector<Series> of[SIZES][OPERATIONS], structured[SIZES][KINDS], two[TWOS], read[TEXT_KINDS], written[TEXT_KINDS];
     std::vector<double> bytes[SIZES];
     std::vector<size_t> failed;
 };
@@ -291,6 +317,67 @@ void builds_of_two(const std::vector<structure> &all, size_t count, Results &res
             }
 }
 
+// ---- lists as text
+
+// One list, and its text with a null byte after it.
+struct Text {
+    List list;
+    std::vector<uint8_t> bytes;
+};
+
+Text text_of(const TextKind &kind, Random &r) {
+    Text t;
+    string s;
+    for (size_t i = 0; i < kind.lines; i++) {
+        t.list.add(kind.any_code ? r.next() : 1 + r.below(65536), r);
+        s += std::to_string(t.list.codes[i]) + "," + std::to_string(t.list.schedules[i]) + "\n";
+    }
+    t.bytes.assign(s.c_str(), s.c_str() + s.size() + 1);
+    return t;
+}
+
+// Fresh texts, some at a time: each is read by one function after the other, and its list written.
+void texts_of(int kind, bool timed, Results &results) {
+    size_t n = text_kinds[kind].lines, at_once = std::max<size_t>(1, 4096 / n);
+    List out;
+    out.codes.resize(n), out.schedules.resize(n);
+    std::vector<uint8_t> written(glass_text_bytes(n) + 1);
+    Random r(19);
+    for (int round = 0; round < ROUNDS; round++) {
+        std::vector<double> read(TEXT_FUNCTIONS), write(TEXT_FUNCTIONS);
+        for (size_t from = 0; from < BUILT / n; from += at_once) {
+            Random seeds(((uint64_t)(200 + kind) << 32) + ((uint64_t)round << 16) + from);
+            std::vector<Text> texts;
+            size_t bytes = 0;
+            for (size_t u = 0; u < at_once; u++) texts.push_back(text_of(text_kinds[kind], seeds)), bytes += texts[u].bytes.size() - 1;
+            for (size_t f : order(TEXT_FUNCTIONS, r)) {
+                const TextFunctions &it = text_functions[f];
+                size_t lines = 0, got = 0;
+                double t0 = now();
+                for (const Text &t : texts)
+                    lines += it.read(t.bytes.data(), t.bytes.size() - 1, out.codes.data(), n, out.schedules.data(), n).value;
+                double t1 = now();
+                for (const Text &t : texts)
+                    got += it.write(t.list.codes.data(), n, t.list.schedules.data(), n, written.data(), glass_text_bytes(n)).value;
+                double t2 = now();
+                if (lines != at_once * n || got != bytes) wrong(it.name, "text");
+                read[f] += t1 - t0, write[f] += t2 - t1;
+                for (const Text &t : texts) {
+                    if (timed) break;
+                    it.read(t.bytes.data(), t.bytes.size() - 1, out.codes.data(), n, out.schedules.data(), n);
+                    it.write(t.list.codes.data(), n, t.list.schedules.data(), n, written.data(), glass_text_bytes(n));
+                    if (out.codes != t.list.codes || out.schedules != t.list.schedules) wrong(it.name, "list read");
+                    if (std::memcmp(written.data(), t.bytes.data(), t.bytes.size() - 1)) wrong(it.name, "text written");
+                }
+            }
+        }
+        for (size_t f = 0; timed && f < TEXT_FUNCTIONS; f++) {
+            results.read[kind][f].push_back(read[f] / BUILT);
+            results.written[kind][f].push_back(write[f] / BUILT);
+        }
+    }
+}
+
 // ---- the tables
 
 double part(Series s, double p) {
@@ -335,8 +422,8 @@ string report(const std::vector<structure> &all, const Results &results, const s
     s += string("- Ours: ") + argv[3] + ".\n";
     for (int i = 4; i < argc; i++) s += string("- ") + argv[i] + ".\n";
     s += "- " + grouped(ROUNDS) + " rounds of " + grouped(QUERIES) + " queries, and of " + grouped(BUILT) +
-         " codes in fresh lists. A figure is the 20th percentile of the rounds, in ns a query (hits, misses, half, chain), a code of a panel, "
-         "or a code of the table (build, check, read back). In brackets the median of ours / other: below 1 ours is faster.\n";
+         " codes in fresh lists or lines in fresh texts. A figure is the 20th percentile of the rounds, in ns a query (hits, misses, half, chain), a code of a panel, "
+         "a code of the table (build, check, read back), or a line of a text. In brackets the median of ours / other: below 1 ours is faster.\n";
     for (int size = 0; size < SIZES; size++) {
         size_t n = sizes[size];
         s += "\n## " + grouped(n) + " codes\n\n|";
@@ -362,8 +449,18 @@ string report(const std::vector<structure> &all, const Results &results, const s
     for (int kind = 0; kind < KINDS; kind++)
         for (int size = 0; size < SIZES; size++) row(kind_names[kind], sizes[size], results.structured[size][kind]);
     for (int two = 0; two < TWOS; two++) row(twos[two].name, 2, results.two[two]);
+    s += "\n## Lists as text\n\nIn ns a line.\n\n| | lines | codes";
+    for (const TextFunctions &f : text_functions) s += string(" | ") + f.name;
+    s += " |\n|---|---|---|---|---|---|---|\n";
+    for (int write = 0; write < 2; write++)
+        for (int kind = 0; kind < TEXT_KINDS; kind++) {
+            s += string(write ? "| write | " : "| read | ") + grouped(text_kinds[kind].lines);
+            s += text_kinds[kind].any_code ? " | any 32 bits" : " | 1 to 65,536";
+            for (size_t f = 0; f < TEXT_FUNCTIONS; f++) s += " | " + cell(write ? results.written[kind] : results.read[kind], f);
+            s += " |\n";
+        }
     s += "\n## Compared before anything was timed\n\n" + compared;
-    s += "\nAll structures gave the same answers to every query that was timed, and read back the same pairs.";
+    s += "\nAll structures gave the same answers to every query that was timed, and read back the same pairs; all texts were read and written alike.";
     size_t lists = 0;
     for (size_t n : sizes) lists += ROUNDS * (BUILT / n);
     for (size_t i = 0; i < all.size(); i++)
@@ -403,6 +500,7 @@ int main(int argc, char **argv) {
     }
     if (!bytes) wrong(argv[2], "bytes");
     for (auto &o : results.two) o.resize(all.size());
+    for (int kind = 0; kind < TEXT_KINDS; kind++) results.read[kind].resize(TEXT_FUNCTIONS), results.written[kind].resize(TEXT_FUNCTIONS);
 
     double t = clock_of(CLOCK_MONOTONIC);
     auto step = [&t](const char *what) {
@@ -419,6 +517,8 @@ int main(int argc, char **argv) {
         for (int kind = PROGRESSION; kind < KINDS; kind++)
             for (int size = 0; size < SIZES; size++) builds_of(all, same_format, (Kind)kind, size, OTHER_BUILT, timed, results);
         step(timed ? "builds, checks and read backs timed" : "builds, checks and read backs compared");
+        for (int kind = 0; kind < TEXT_KINDS; kind++) texts_of(kind, timed, results);
+        step(timed ? "lists as text timed" : "lists as text compared");
     }
     builds_of_two(all, same_format, results);
     string s = report(all, results, compared, load, argc, argv);
