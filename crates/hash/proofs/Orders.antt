@@ -113,6 +113,13 @@ nothing-left : (s l : List ℕ) → length (s ++ l) ≤ length s → s ++ l ≡ 
 nothing-left s [] h = append-nil s
 nothing-left s (a ∷ l) h = absurd (omega (arith, length-append s (a ∷ l)))
 
+-- a list without repetition, all of it in r and as long as r, has all of r
+pub nothing-missed :
+    (s r : List ℕ) → Distinct s → ((a : ℕ) → List·Memᴰ a s → List·Memᴰ a r) → length r ≤ length s → (a : ℕ) → List·Memᴰ a r → List·Memᴰ a s
+nothing-missed s r ds sr short a m =
+    let (l, q) = pull-all s ds sr in
+    perm-mem (rw (nothing-left s l (omega (arith, perm-length q))) at q) m
+
 pub same-perm :
     (s r : List ℕ) → Distinct s → Distinct r → ((a : ℕ) → List·Memᴰ a s → List·Memᴰ a r)
     → ((a : ℕ) → List·Memᴰ a r → List·Memᴰ a s) → List·Permᴰ s r

@@ -2,11 +2,13 @@
 use Prim.Native.Nat.{ℕ, zero, suc, _+_, _<_, _≤_}
 use native.Mathlib.Decide.{ℕ-discrete}
 use native.Mathlib.Nat.{add-zero, add-suc}
+use native.Mathlib.Numerals.{add-one}
 use native.Mathlib.Omega.{arith}
 use mathlib.Core.List.{List, [], _∷_, _++_, append-assoc, append-nil}
 use mathlib.Core.Path.{_≡_, refl, sym, ap, ap₂, _∙_}
 use lib.ListN.{length, getD, take, drop, set, replicate, length-append, length-drop, length-set, length-replicate, getD-replicate, List·getD-append}
-use lib.Seq.{length-take-le, getD-take, getD-drop, ext-getD, getD-at, getD-append-add, getD-set-same, getD-set-other}
+use lib.Seq.{length-take-le, getD-take, getD-drop, ext-getD, getD-at, getD-append-add, getD-set-same, getD-set-other, drop-cons, set-at}
+use Rattle.table.specs.Answers.{over}
 use Rattle.table.specs.TwoLevel.{tabulate}
 
 pub tabulate-length : (f : ℕ → ℕ) (n : ℕ) → length (tabulate f n) ≡ n
@@ -86,3 +88,33 @@ tabulate-set f g n i h other =
       | no ne ↦
           getD-set-other (tabulate f n) i j (g i) 0 ne ∙ tabulate-at f n j m ∙ sym (other j m ne) ∙ sym (tabulate-at g n j m)
     ])
+
+-- ---- filled front to back
+
+-- the first i places hold f 0, f 1, .., and the later ones are kept
+pub record TabulatedTo (f : ℕ → ℕ) (i : ℕ) (old now : List ℕ) : Type 0 where
+  pub memory : now ≡ tabulate f i ++ drop i old
+  pub room : i ≤ length old
+
+pub tabulated-none : (f : ℕ → ℕ) (old : List ℕ) → TabulatedTo f 0 old old
+unfolding tabulate
+tabulated-none f old = record { memory = refl; room = omega arith }
+
+module _ {f : ℕ → ℕ} {i : ℕ} {old now : List ℕ} (l : TabulatedTo f i old now) where
+  pub tabulated-kept : length now ≡ length old
+  tabulated-kept =
+      ap length (l .memory) ∙ omega (arith, l .room, length-append (tabulate f i) (drop i old), tabulate-length f i, length-drop i old)
+
+  pub tabulated-more : i < length old → TabulatedTo f (i + 1) old (set now i (f i))
+  unfolding tabulate
+  tabulated-more h =
+      record {
+        memory =
+            rw (add-one i, l .memory, drop-cons old i 0 h)
+            (set-at (tabulate f i) (getD old i 0) (drop (suc i) old) (f i) i (tabulate-length f i)
+            ∙ sym (append-assoc (tabulate f i) (f i ∷ []) (drop (suc i) old)));
+        room = omega arith;
+      }
+
+  pub tabulated-all : now ≡ over (tabulate f i) old
+  tabulated-all = rw (tabulate-length f i) (l .memory)
