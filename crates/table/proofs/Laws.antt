@@ -1,11 +1,13 @@
--- What the proofs of this crate, and of those above it, have in common: the facts that decide a definition's tests, and what sizes that pass tell.
+-- What the proofs of this crate, and of those above it, have in common: the facts that decide a definition's tests, what shows an answer, and what sizes that
+-- pass tell.
 use Prim.Native.Nat.{ℕ, _-_, _≤_}
 use mathlib.Core.Bool.{Bool, true, false, cond, _||_, true≢false}
 use mathlib.Core.List.{List}
 use mathlib.Core.Path.{_≡_, refl, sym}
 use native.Mathlib.Omega.{arith}
 use borrow.Author.Tests.{le-ltb, lt-ltb, le-leb, lt-leb, eq-eqb, ne-eqb, ltb-false, eqb-false, not-true}
-use Rattle.table.specs.Answers.{outside}
+use Rattle.table.specs.Answers.{Answer, outside}
+use Rattle.table.specs.Numbers.{numberOf, valueOf, Shown, SizeShown}
 use Rattle.table.specs.Words.{codeCount, multiplier}
 use Rattle.table.specs.Lookup.{tooManyCodes, tooManyCells, badMultiplier, tooShort, badSizes}
 use Rattle.table.specs.code.Sized.{Sized, WithBlocks, hasBlocks}
@@ -20,6 +22,13 @@ or-false false b e = (refl, e)
 
 pub within : (low high x : ℕ) → outside low high x ≡ false → (low ≤ x) × (x ≤ high)
 within low high x e = let r = or-false _ _ e in (ltb-false _ _ (r .0), ltb-false _ _ (r .1))
+
+-- an answer's own number and value show it
+pub shown : (answer : Answer) → Shown answer (record { number = numberOf answer; value = valueOf answer })
+shown answer = record { number-shown = refl; value-shown = refl }
+
+pub size-shown : (answer : Answer) → SizeShown answer (record { number = numberOf answer; value = valueOf answer })
+size-shown answer = record { number-shown = refl; value-shown = refl }
 
 -- sizes of which none of 12 to 15 holds
 pub sized-by :
