@@ -1,0 +1,2 @@
+-- How the places of a load are filled.
+pub mod Places
