@@ -1,8 +1,9 @@
 /* glass.h -- the glass code table of a kiln controller, from C
  *
  * A table is a run of 32-bit words from glass codes (1 to 65,536) to firing schedules (1 to 999). It is built from a studio's list of at most
- * 2,048 pairs, in any order: the same pairs give the same words. A list is also read from a supplier's text, and written as one. Nothing here
- * allocates, keeps state between calls, or needs a table or a text to have been checked before: every function answers every input.
+ * 2,048 pairs, in any order: the same pairs give the same words. A list is also read from a supplier's text, and written as one; and there is a test
+ * load of any length, the same on every bench. Nothing here allocates, keeps state between calls, or needs a table or a text to have been checked
+ * before: every function answers every input.
  *
  * Lent memory. An array is lent as a pointer and the number of its elements. The pointer is aligned for its element (any address will do for a text's
  * uint8_t), and the elements may be read; those of an array that is not const may be written too. Where the number is 0, the pointer need only be
@@ -83,13 +84,16 @@ typedef enum {
 
     /* a list as text */
     GLASS_TEXT_FAULTY_LINE = 71,     /* a line is not a pair's, has a number above 4,294,967,295, or is not ended: the first such line */
-    GLASS_TEXT_NO_ROOM = 72          /* reading: codes or schedules has fewer places than the text has lines: its lines;
+    GLASS_TEXT_NO_ROOM = 72,         /* reading: codes or schedules has fewer places than the text has lines: its lines;
                                         writing: fewer bytes are lent than the text takes: the bytes that it takes */
+
+    /* a test load */
+    GLASS_LOAD_TOO_LONG = 73         /* the length is above GLASS_MOST_PAIRS, or codes or schedules has fewer places */
 } glass_number;
 
 /* The limits. */
 enum {
-    GLASS_MOST_PAIRS = 2048,    /* of a list that is built or written; a text that is read may have any number of lines */
+    GLASS_MOST_PAIRS = 2048,    /* of a list that is built, written or generated; a text that is read may have any number of lines */
     GLASS_MOST_CODE = 65536,
     GLASS_MOST_SCHEDULE = 999,
     GLASS_MOST_PANEL = 64,      /* codes of a panel */
@@ -173,6 +177,14 @@ glass_size glass_read_list(const uint8_t *text, size_t text_len, uint32_t *codes
  * Refusals: 1, 2, 72. text_len = glass_text_bytes(codes_len) is never 72. */
 glass_size glass_write_list(const uint32_t *codes, size_t codes_len, const uint32_t *schedules, size_t schedules_len, uint8_t *text,
                             size_t text_len);
+
+/* Generates a test load of `length` pairs into the first places of codes and schedules. codes[i] is the remainder of 75 to the power i + 1 by 65,537,
+ * schedules[i] is i mod 999 + 1. The codes differ, so every load can be built; a load begins with every shorter one. Later places keep what they held.
+ *
+ * Result: the length.
+ *
+ * Refusals: 73. */
+glass_answer glass_generate(size_t length, uint32_t *codes, size_t codes_len, uint32_t *schedules, size_t schedules_len);
 
 #ifdef __cplusplus
 }

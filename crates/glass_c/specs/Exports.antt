@@ -10,6 +10,7 @@ use Rattle.table.specs.declared.answers.Numbered.{Numbered}
 use Rattle.table.specs.declared.answers.NumberedSize.{NumberedSize}
 use Rattle.table.specs.Numbers.{Shown, SizeShown}
 use Rattle.suppliers.specs.Lists.{readListOf, listCodes, listSchedules, writeListOf, writtenText}
+use Rattle.generator.specs.TestLoad.{generateOf, loadedCodes, loadedSchedules}
 
 pub record BuildShown (p limit : ℕ) (codes schedules words : List ℕ) (r : Numbered) (words′ : List ℕ) : Type 0 where
   pub shows : Shown (buildOf p limit codes schedules (length words)) r
@@ -36,3 +37,8 @@ pub record ReadListShown (text codes schedules : List ℕ) (r : NumberedSize) (c
 pub record WriteListShown (limit : ℕ) (codes schedules text : List ℕ) (r : NumberedSize) (text′ : List ℕ) : Type 0 where
   pub shows : SizeShown (writeListOf limit codes schedules (length text)) r
   pub text-at-exit : text′ ≡ writtenText limit codes schedules text
+
+pub record GenerateShown (limit n : ℕ) (codes schedules : List ℕ) (r : Numbered) (codes′ schedules′ : List ℕ) : Type 0 where
+  pub shows : Shown (generateOf limit n (length codes) (length schedules)) r
+  pub codes-at-exit : codes′ ≡ loadedCodes limit n codes schedules
+  pub schedules-at-exit : schedules′ ≡ loadedSchedules limit n codes schedules

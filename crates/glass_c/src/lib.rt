@@ -3,7 +3,7 @@ ghost use Rattle.table.specs.Lookup.{lookupOf};
 ghost use Rattle.panel.specs.Panel.{panelOf};
 ghost use Rattle.audit.specs.Check.{checkOf};
 ghost use Rattle.table.specs.Numbers.{Shown};
-ghost use Rattle.glass_c.specs.Exports.{BuildShown, PairsShown, InsertShown, RemoveShown, ReadListShown, WriteListShown};
+ghost use Rattle.glass_c.specs.Exports.{BuildShown, PairsShown, InsertShown, RemoveShown, ReadListShown, WriteListShown, GenerateShown};
 ghost use Rattle.table.specs.Limits.{mostPairs};
 
 mod found;
@@ -85,4 +85,15 @@ pub extern "C" fn glass_write_list(
     ensures { λ r. ⌜ WriteListShown mostPairs (now (codes .entry)) (now (schedules .entry)) (now (text .entry)) r (now (text .exit)) ⌝ }
 {
     suppliers::numbered::numbered_written(suppliers::write::write_list(codes, schedules, text))
+}
+
+#[no_mangle]
+pub extern "C" fn glass_generate(
+    length: usize,
+    codes: &mut [u32],
+    schedules: &mut [u32],
+) -> Numbered
+    ensures { λ r. ⌜ GenerateShown mostPairs length (now (codes .entry)) (now (schedules .entry)) r (now (codes .exit)) (now (schedules .exit)) ⌝ }
+{
+    generator::numbered::numbered(generator::generate(length, codes, schedules))
 }
