@@ -28,6 +28,7 @@ use Rattle.files.specs.Bytes.{wordsOf}
 use Rattle.listing.specs.Listing.{fileOf}
 use Rattle.suppliers.specs.Text.{linesOf}
 use Rattle.suppliers.specs.Lists.{faultyLine, readListOf, listText, writeListOf}
+use Rattle.generator.specs.TestLoad.{generateOf}
 use Rattle.demands.specs.Answered.{ResultOr, LookupAnswer, PanelAnswer}
 use Rattle.demands.specs.Theorems.{checkAlone, checkValued, Answering}
 
@@ -196,6 +197,13 @@ write-list-answers limit codes schedules lent =
     (test-first result (1 ∷ 2 ∷ []) (72 ∷ []) (ltb limit (length codes)) 2 0 _ refl
     (test-first result (1 ∷ 2 ∷ []) (72 ∷ []) (ltb lent needed) 72 needed (given result) refl (done result _ _)))
 
+-- ---- loads
+
+generate-answers : (limit n codes schedules : ℕ) → ResultOr (n ∷ []) (73 ∷ []) [] (generateOf limit n codes schedules)
+unfolding generateOf among
+generate-answers limit n codes schedules =
+    test-first (n ∷ []) (73 ∷ []) [] (ltb limit n || (ltb codes n || ltb schedules n)) 73 0 (given (n ∷ [])) refl (done (n ∷ []) _ _)
+
 -- ---- lookups
 
 -- one test of a lookup before an answer
@@ -307,4 +315,5 @@ answering =
       file = file-answers 65537 2048;
       read-list = read-list-answers;
       write-list = write-list-answers 2048;
+      generate = generate-answers 2048;
     }

@@ -31,6 +31,8 @@ keeping =
       read-list = λ text codes schedules answer codes′ schedules′ b no.
           (b .codes-at-exit ∙ kept _ codes (b .answers) no, b .schedules-at-exit ∙ kept _ schedules (b .answers) no);
       write-list = λ codes schedules text answer text′ b no. b .text-at-exit ∙ kept _ text (b .answers) no;
+      generate = λ n codes schedules answer codes′ schedules′ b no.
+          (b .codes-at-exit ∙ kept _ codes (b .answers) no, b .schedules-at-exit ∙ kept _ schedules (b .answers) no);
     }
 
 -- ---- what C sees
@@ -87,4 +89,8 @@ exporting =
       );
       glass-write-list = λ codes schedules text r text′ b.
           shows-size _ _ _ _ text refl refl text′ (answering .write-list codes schedules _) (b .shows) (b .text-at-exit);
+      glass-generate = λ n codes schedules r codes′ schedules′ b. (
+        shows _ _ _ _ codes refl refl codes′ (answering .generate n _ _) (b .shows) (b .codes-at-exit),
+        shows _ _ _ _ schedules refl refl schedules′ (answering .generate n _ _) (b .shows) (b .schedules-at-exit),
+      );
     }

@@ -1,5 +1,5 @@
 -- In reading order: the words that settle a lookup, and tables from anywhere; then the table of a list: its cells, that it is
--- well-formed, its multipliers, its lookups, its build, other orders of the list, and all together; edits, answers and texts.
+-- well-formed, its multipliers, its lookups, its build, other orders of the list, and all together; edits, answers, texts and test loads.
 pub mod Settle
 pub mod Within
 pub mod Reading
@@ -18,4 +18,5 @@ pub mod Keeping
 pub mod TextsWritten
 pub mod Made
 pub mod Texts
+pub mod TestLoads
 pub mod Theorems

@@ -27,7 +27,8 @@ use Rattle.listing.specs.Listing.{fileOf}
 use Rattle.suppliers.specs.Text.{Line, TextOf, linesOf, pairsOfText}
 use Rattle.suppliers.specs.Lists.{readListOf, ListRead, listText, writeListOf, ListWritten}
 use Rattle.maker.specs.Making.{madeOf}
-use Rattle.glass_c.specs.Exports.{BuildShown, PairsShown, InsertShown, RemoveShown, ReadListShown, WriteListShown}
+use Rattle.generator.specs.TestLoad.{testCode, testCodes, testSchedules, generateOf, LoadGenerated}
+use Rattle.glass_c.specs.Exports.{BuildShown, PairsShown, InsertShown, RemoveShown, ReadListShown, WriteListShown, GenerateShown}
 use Rattle.lists.specs.Valid.{Valid}
 use Rattle.demands.specs.Lists.{Listed, SamePairs, rightAnswer, enough, AgreeAt, lookedAt, AllWords}
 use Rattle.demands.specs.Answered.{IsRefusal, ResultOr, LookupAnswer, PanelAnswer, FilledOrKept, readAs}
@@ -81,6 +82,8 @@ pub record Answering : Type 0 where
   pub write-list :
       (codes schedules : List ℕ) (lent : ℕ)
       → ResultOr (length (listText codes schedules) ∷ []) (1 ∷ 2 ∷ []) (72 ∷ []) (writeListOf 2048 codes schedules lent)
+  -- a test load: its length, or 73
+  pub generate : (n codes schedules : ℕ) → ResultOr (n ∷ []) (73 ∷ []) [] (generateOf 2048 n codes schedules)
 
 -- Demand 1: a refusal leaves all lent memory as it was. Each operation that is lent memory, by its contract
 pub record Keeping : Type 0 where
@@ -103,6 +106,9 @@ pub record Keeping : Type 0 where
   pub write-list :
       (codes schedules text : List ℕ) (answer : Answer) (text′ : List ℕ)
       → ListWritten 2048 codes schedules text answer text′ → IsRefusal answer → text′ ≡ text
+  pub generate :
+      (n : ℕ) (codes schedules : List ℕ) (answer : Answer) (codes′ schedules′ : List ℕ)
+      → LoadGenerated 2048 n codes schedules answer codes′ schedules′ → IsRefusal answer → (codes′ ≡ codes) × (schedules′ ≡ schedules)
 
 -- the same of the C exports: the number 0 is a result with its value and memory, and any other number leaves the memory as it was
 pub record Exporting : Type 0 where
@@ -134,6 +140,11 @@ pub record Exporting : Type 0 where
       (codes schedules text : List ℕ) (r : NumberedSize) (text′ : List ℕ)
       → WriteListShown 2048 codes schedules text r text′
       → FilledOrKept (r .number) (r .value) (length (listText codes schedules)) (listText codes schedules) text text′
+  pub glass-generate :
+      (n : ℕ) (codes schedules : List ℕ) (r : Numbered) (codes′ schedules′ : List ℕ)
+      → GenerateShown 2048 n codes schedules r codes′ schedules′
+      → FilledOrKept (r .number) (r .value) n (testCodes n) codes codes′
+      × FilledOrKept (r .number) (r .value) n (testSchedules n) schedules schedules′
 
 -- the check accepts a table
 abbrev pub Accepted : List ℕ → Type 0
@@ -384,3 +395,31 @@ pub record Texts : Type 0 where
   pub made-file :
       (pairs : List Pair) (text : List ℕ) → TextOf pairs text → Valid 65537 2048 (codesOf pairs) (schedulesOf pairs)
       → wordsOf (madeOf 65537 2048 text) ≡ tableOf 65537 (codesOf pairs) (schedulesOf pairs)
+
+-- Document 02, Change 2: a studio's own test load
+pub record TestLoads : Type 0 where
+  -- a load of any length up to 65,536 is a valid list: its codes are from 1 to 65,536 and differ
+  pub valid : (limit n : ℕ) → n ≤ limit → n ≤ 65536 → Valid 65537 limit (testCodes n) (testSchedules n)
+  -- as 75 generates them all
+  pub every-code : (a : ℕ) → 1 ≤ a → a ≤ 65536 → (i : ℕ) × (i < 65536) × (testCode i ≡ a)
+  -- a load begins with every shorter one
+  pub begins :
+      (m n : ℕ) → m ≤ n → (take m (testCodes n) ≡ testCodes m) × (take m (testSchedules n) ≡ testSchedules m)
+  -- a length is refused by 73 exactly if it is above 2,048, or above either array's
+  pub too-long :
+      (n codes schedules : ℕ)
+      → (generateOf 2048 n codes schedules ≡ refused 73 0) ↔ ((2048 < n) ⊎ ((codes < n) ⊎ (schedules < n)))
+  -- otherwise the load stands in the first places
+  pub generates :
+      (n : ℕ) (codes schedules : List ℕ) (answer : Answer) (codes′ schedules′ : List ℕ)
+      → n ≤ 2048 → n ≤ length codes → n ≤ length schedules → LoadGenerated 2048 n codes schedules answer codes′ schedules′
+      → (answer ≡ given (n ∷ [])) × (codes′ ≡ over (testCodes n) codes) × (schedules′ ≡ over (testSchedules n) schedules)
+  -- every load can be built: demands 2 and 3 hold of it
+  pub tables : (n : ℕ) → n ≤ 2048 → TableOfList (testCodes n) (testSchedules n)
+  pub any-load : (n : ℕ) (words : List ℕ) → n ≤ 2048 → enough n ≤ length words → BuiltFrom (testCodes n) (testSchedules n) words
+  -- and a load that was generated, built from the places that it fills, gives its table
+  pub generated-built :
+      (n : ℕ) (codes schedules codes′ schedules′ words : List ℕ) (answer : Answer) (words′ : List ℕ)
+      → LoadGenerated 2048 n codes schedules (given (n ∷ [])) codes′ schedules′ → enough n ≤ length words
+      → Built 65537 2048 (take n codes′) (take n schedules′) words answer words′
+      → (answer ≡ given (wordsNeeded 65537 (testCodes n) ∷ [])) × BeginsWithTable (testCodes n) (testSchedules n) words′

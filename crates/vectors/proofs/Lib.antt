@@ -1,1 +1,2 @@
 pub mod Firings
+pub mod Loads

@@ -1,2 +1,3 @@
--- The firings to compare by, as statements; proofs/Firings.antt computes each.
+-- The firings to compare by, and the first of a test load, as statements; proofs/ computes each.
 pub mod Firings
+pub mod Loads
