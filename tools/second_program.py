@@ -1,16 +1,19 @@
 #!/usr/bin/env python3
-"""A second implementation of the build of document 01 and of lists as text (document 02, Change 1), to compare the
-proved ones with.
+"""A second implementation of the build of document 01, of lists as text and of test loads (document 02, Changes 1 and 2),
+to compare the proved ones with.
 
 Written from the papers alone, with the standard library alone.
 
   tools/second_program.py make
-      writes the stored input and expected output of the programs `compare`, `compare_texts` and `make_*`
+      writes the stored input and expected output of the programs `compare`, `compare_texts`, `compare_loads` and `make_*`
   tools/second_program.py fresh SEED COUNT PROGRAM
       makes COUNT lists from SEED, runs PROGRAM (`compare`) on them and compares what it prints
   tools/second_program.py fresh-texts SEED COUNT PROGRAM
       makes COUNT texts to read and lists to write from SEED, runs PROGRAM (`compare_texts`) on them and compares
       what it prints
+  tools/second_program.py fresh-loads SEED COUNT PROGRAM
+      makes COUNT lengths of loads and lent places from SEED, runs PROGRAM (`compare_loads`) on them and compares what it
+      prints
   tools/second_program.py fresh-tables SEED COUNT PROGRAM
       makes COUNT texts from SEED, runs PROGRAM (`make_table`) on each and compares what it prints
 
@@ -29,6 +32,12 @@ Output:
   same line the pairs, each as `code,schedule`, where there are at most SHORT
   `written NUMBER VALUE DIGEST`, the digest of all lent bytes after the call, and below it the text, where it has at
   most SHORT_TEXT bytes
+
+Input of `compare_loads`, for each load: 1 if its table is listed and otherwise 0, the length, the lent codes and the lent
+schedules (how many), which are lent as above.
+Output:
+  `generated NUMBER VALUE DIGEST DIGEST`, the digests of all lent codes and of all lent schedules after the call; unless it
+  is refused, `built n c k total digest` of the load's table, and where it is listed, the listing of document 01
 """
 import collections
 import pathlib
@@ -49,7 +58,7 @@ SHORT_TEXT = 256
 OLD_CODE = 7000000
 OLD_SCHEDULE = 8000000
 OLD_BYTES = 251
-# what `compare_texts` has room for
+# what `compare_texts` and `compare_loads` have room for
 MOST_PLACES = 4096
 MOST_TEXT = 65536
 
@@ -110,6 +119,12 @@ def build_refused(pairs):
     return next(((number, where.index(True)) for number, where in faults if True in where), None)
 
 
+def listing(words, pairs):
+    """What `list_table` prints of the table of a list."""
+    lines = ["codes %d cells %d multiplier %d\n" % tuple(words[:3])] + ["%d %d\n" % pair for pair in sorted(pairs)]
+    return "".join(lines).encode()
+
+
 # ---- a list as text
 
 
@@ -161,6 +176,18 @@ def table_file(text):
     return b"refused %d %d\n" % (number, value) if number else packed(build(pairs))
 
 
+# ---- a studio's own test load
+
+
+def test_load(n):
+    return [(pow(75, i + 1, P), i % 999 + 1) for i in range(n)]
+
+
+def generate(n, code_places, schedule_places):
+    """The number, the value and the pairs of generating a load into lent places; no pairs where it is refused."""
+    return (73, 0, []) if n > min(MOST_PAIRS, code_places, schedule_places) else (0, n, test_load(n))
+
+
 # ---- what the programs read and print
 
 
@@ -186,6 +213,22 @@ def filled(new, old):
     return list(new) + list(old)[len(new):]
 
 
+def lent_digests(pairs, code_places, schedule_places):
+    """The digests of lent codes and of lent schedules whose first places are filled with these pairs."""
+    codes = filled([a for a, _ in pairs], range(OLD_CODE, OLD_CODE + code_places))
+    schedules = filled([s for _, s in pairs], range(OLD_SCHEDULE, OLD_SCHEDULE + schedule_places))
+    return [digest(codes), digest(schedules)]
+
+
+def line_of(fields):
+    return (" ".join(map(str, fields)) + "\n").encode()
+
+
+def summary(words):
+    """n, c, k, the total and the digest of a table."""
+    return words[:3] + [len(words), digest(words)]
+
+
 class Built(typing.NamedTuple):
     """A list that `compare` builds."""
 
@@ -199,8 +242,7 @@ class Built(typing.NamedTuple):
 
     def expected(self):
         words = build(self.pairs)
-        shown = words if len(self.pairs) <= SHORT else words[:3] + [len(words), digest(words)]
-        return (" ".join(map(str, shown)) + "\n").encode() * 2
+        return line_of(words if len(self.pairs) <= SHORT else summary(words)) * 2
 
 
 class Read(typing.NamedTuple):
@@ -221,11 +263,8 @@ class Read(typing.NamedTuple):
 
     def expected(self):
         number, value, pairs = self.answer()
-        codes = filled([a for a, _ in pairs], range(OLD_CODE, OLD_CODE + self.code_places))
-        schedules = filled([s for _, s in pairs], range(OLD_SCHEDULE, OLD_SCHEDULE + self.schedule_places))
-        shown = pairs if len(pairs) <= SHORT else []
-        line = ["read", number, value, digest(codes), digest(schedules)] + ["%d,%d" % pair for pair in shown]
-        return (" ".join(map(str, line)) + "\n").encode()
+        shown = ["%d,%d" % pair for pair in pairs] if len(pairs) <= SHORT else []
+        return line_of(["read", number, value] + lent_digests(pairs, self.code_places, self.schedule_places) + shown)
 
 
 class Written(typing.NamedTuple):
@@ -249,6 +288,33 @@ class Written(typing.NamedTuple):
         all_bytes = filled(text, [i % OLD_BYTES for i in range(self.lent)])
         line = "written %d %d %d\n" % (number, value, digest(all_bytes))
         return line.encode() + (text if len(text) <= SHORT_TEXT else b"")
+
+
+class Generated(typing.NamedTuple):
+    """A load that `compare_loads` generates, builds and, where it is asked, lists."""
+
+    listed: bool
+    length: int
+    code_places: int
+    schedule_places: int
+
+    def encoded(self):
+        assert max(self.code_places, self.schedule_places) <= MOST_PLACES
+        return packed([int(self.listed), self.length, self.code_places, self.schedule_places])
+
+    def answer(self):
+        return generate(self.length, self.code_places, self.schedule_places)
+
+    def number(self):
+        return self.answer()[0]
+
+    def expected(self):
+        number, value, pairs = self.answer()
+        line = line_of(["generated", number, value] + lent_digests(pairs, self.code_places, self.schedule_places))
+        if number:
+            return line
+        words = build(pairs)
+        return line + line_of(["built"] + summary(words)) + (listing(words, pairs) if self.listed else b"")
 
 
 def encoded(cases):
@@ -499,6 +565,34 @@ def random_texts(seed, count):
     return cases[:count]
 
 
+# ---- loads to generate
+
+
+def stored_loads():
+    lengths = [0, 1, 2, 4, 32, 33, 998, 999, 1000, 1024, 2047, 2048]
+    cases = [Generated(False, n, n + codes, n + schedules) for n in lengths for codes, schedules in ((0, 0), (3, 0), (0, 5), (9, 7))]
+    cases += [Generated(False, n, MOST_PLACES, MOST_PLACES) for n in lengths + [2049, 4096, MOST_NUMBER]]
+    # an array or both one too short, or empty; a length that is too large as well
+    for n in (1, 2, 999, 1000, 2048, 2049):
+        cases += [Generated(False, n, n + codes, n + schedules) for codes, schedules in ((-1, 0), (0, -1), (-1, -1), (-n, 0), (0, -n), (-n, -n))]
+    cases += [Generated(False, MOST_NUMBER, 0, 0), Generated(False, MOST_NUMBER, MOST_PAIRS, 0)]
+    # at 1,000 the schedules begin again from 1
+    return cases + [Generated(True, n, n, n) for n in (0, 4, 1000)] + [Generated(True, 4, 3, 4)]
+
+
+def random_loads(seed, count):
+    """Lengths often near the ends of what is a load and of the schedules; places exactly enough, more, too few and any number."""
+    r = random.Random(seed)
+    cases = []
+    for _ in range(count):
+        near = r.choice([0, 2, 32, 999, 1000, MOST_PAIRS, MOST_PAIRS + 1])
+        n = r.choice([near, max(near + r.randint(-2, 2), 0), r.randint(0, MOST_PAIRS), r.randint(0, MOST_PLACES), any_number(r)])
+        codes, schedules = (r.choice([n, n, n + r.randint(1, 9), n - 1, r.randint(0, MOST_PLACES)]) for _ in range(2))
+        codes, schedules = (min(max(places, 0), MOST_PLACES) for places in (codes, schedules))
+        cases.append(Generated(r.random() < 0.3, n, codes, schedules))
+    return cases
+
+
 # ---- texts to make tables of
 
 
@@ -547,7 +641,8 @@ def counted(cases):
 
 
 def make():
-    for program, cases in (("compare", [Built(pairs) for pairs in stored_lists()]), ("compare_texts", stored_texts())):
+    programs = {"compare": [Built(pairs) for pairs in stored_lists()], "compare_texts": stored_texts(), "compare_loads": stored_loads()}
+    for program, cases in programs.items():
         store(program, encoded(cases), expected(cases))
         print(f"{program}: {counted(cases)}")
     for program, text in stored_studio_texts().items():
@@ -571,6 +666,7 @@ def fresh_tables(texts, program):
 FRESH = {
     "fresh": lambda seed, count, program: fresh([Built(pairs) for pairs in random_lists(seed, count)], program),
     "fresh-texts": lambda seed, count, program: fresh(random_texts(seed, count), program),
+    "fresh-loads": lambda seed, count, program: fresh(random_loads(seed, count), program),
     "fresh-tables": lambda seed, count, program: fresh_tables(random_studio_texts(seed, count), program),
 }
 

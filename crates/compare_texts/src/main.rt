@@ -2,22 +2,14 @@
 // where they are short. tools/second_program.py makes the input and the lines that are expected, and says what is in them.
 ghost use Prim.Native.Nat.{_+_, _<_, _≤_};
 ghost use lib.ListN.{length};
+use digests::digest_bytes;
+use digests::digest_words;
+use digests::lent::count_from;
 
 // The most pairs, and the most bytes of a text, that are printed.
 const SHORT: usize = 32;
 
 const SHORT_TEXT: usize = 256;
-
-// Lends first, first + 1 and so on, for at most 65,536 places.
-fn count_from(first: u32, list: &mut [u32])
-    requires { ⌜ first ≤ 8000000 ⌝ }
-{
-    let mut i: usize = 0;
-    while i < list.len() {
-        list[i] = first + ((i % 65536) as u32);
-        i = i + 1;
-    }
-}
 
 // Lends 0 to 250, again and again.
 fn count_bytes(bytes: &mut [u8]) {
@@ -75,8 +67,8 @@ fn read_and_print(text: &[u8], codes: &mut [u32], schedules: &mut [u32]) {
     let number = answer.number;
     let n = answer.value;
     print_answer(b"read", number, n);
-    print_field(digests::digest_words(codes));
-    print_field(digests::digest_words(schedules));
+    print_field(digest_words(codes));
+    print_field(digest_words(schedules));
     if number == 0 {
         print_pairs(n, codes, schedules);
     }
@@ -89,7 +81,7 @@ fn write_and_print(codes: &[u32], schedules: &[u32], text: &mut [u8]) {
     let number = answer.number;
     let n = answer.value;
     print_answer(b"written", number, n);
-    print_field(digests::digest_bytes(text));
+    print_field(digest_bytes(text));
     io::write_all(1, b"\n");
     if number == 0 {
         print_text(n, text);

@@ -1,6 +1,8 @@
-// Digests of memory, for the programs that compare: one number for all words, or all bytes, of a lent slice.
+// What the programs that compare share: memory as they lend it, and digests of it: one number for all words, or all bytes, of a slice.
 ghost use mathlib.Core.Path.{_≡_};
 ghost use Rattle.digests.specs.Digest.{digestOf};
+
+pub mod lent;
 
 // The digest of the words, first to last.
 pub fn digest_words(words: &[u32]) -> u64
