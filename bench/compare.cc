@@ -1,5 +1,6 @@
 #include "compare.h"
 
+#include "generators.h"
 #include "glass.h"
 #include "lists.h"
 
@@ -325,6 +326,40 @@ uint64_t compare_texts(uint32_t lists) {
     return texts;
 }
 
+// ---- test loads
+
+void generated(size_t length, size_t codes_len, size_t schedules_len, Random &r) {
+    const Words codes_before = lent(codes_len, r), schedules_before = lent(schedules_len, r);
+    Words first_codes, first_schedules;
+    glass_answer a = {0, 0};
+    for (const Generator &g : generators) {
+        Words c = codes_before, s = schedules_before;
+        glass_answer b = g.generate(length, c.data() + AROUND, codes_len, s.data() + AROUND, schedules_len);
+        if (&g == generators) {
+            a = b, first_codes = c, first_schedules = s;
+            if (a.number && (c != codes_before || s != schedules_before)) changed("generate");
+        }
+        same("generate", g.name, a, b);
+        if (c != first_codes || s != first_schedules) differ("generate", g.name, "the lent arrays");
+    }
+    seen["generate"][a.number]++;
+}
+
+// Every length up to 2,050 in places that are exactly enough, then others, of which some are too few. Gives the number of calls.
+uint64_t compare_loads() {
+    Random r(73);
+    uint64_t calls = 0;
+    for (size_t length = 0; length <= 2050; length++, calls++) generated(length, length, length, r);
+    const size_t large[] = {2049, 4096, 65536, ~(uint32_t)0, (size_t)1 << 32, ((size_t)1 << 32) + 5, ~(size_t)0};
+    for (size_t length : large)
+        for (size_t len : {(size_t)0, (size_t)5, (size_t)2048, (size_t)4096}) generated(length, len, len, r), calls++;
+    for (; calls < 20000; calls++) {
+        size_t n = r.below(4) ? r.below(40) : r.below(2052);
+        generated(n, n + r.below(3) - (n && r.below(4) == 0), n + r.below(3) - (n && r.below(4) == 0), r);
+    }
+    return calls;
+}
+
 } // namespace
 
 std::string compare_all() {
@@ -367,12 +402,12 @@ std::string compare_all() {
         asked(t, {1, 2, 3}, r);
     }
     const uint32_t written = 40000;
-    const uint64_t texts = compare_texts(written);
+    const uint64_t texts = compare_texts(written), loads = compare_loads();
 
     std::string s = grouped(lists) + " lists, " + grouped(damaged) + " damaged tables, " + grouped(other) +
                     " well-formed tables whose multipliers are not least, " + grouped(senseless) + " runs of words that are no table; of " +
                     grouped(exhaustive) + " tables every code from 0 to 65,538; " + grouped(written) + " lists written as text, " + grouped(texts) +
-                    " texts read, most of them damaged. All answers and all lent memory were equal. ";
+                    " texts read, most of them damaged; " + grouped(loads) + " test loads. All answers and all lent memory were equal. ";
     s += "How often each number was answered (0: a result, 1000: absent or unknown):\n\n";
     for (const auto &o : seen) {
         s += "- " + o.first + ":";

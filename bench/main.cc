@@ -6,6 +6,7 @@
 //   main RESULTS BYTES OURS LINE...     RESULTS is the file to write, BYTES what was printed, OURS says what is linked as glass.h, each LINE goes
 //                                       into the results
 #include "compare.h"
+#include "generators.h"
 #include "glass.h"
 #include "gperf_bytes.h"
 #include "lists.h"
@@ -80,11 +81,14 @@ struct TextKind {
 const TextKind text_kinds[] = {{1, false}, {16, false}, {256, false}, {2048, false}, {2048, true}};
 enum { TEXT_KINDS = 5 };
 
+const size_t load_lengths[] = {1, 16, 256, 999, 2048};
+enum { LOAD_LENGTHS = 5, GENERATED = 65536 };
+
 // ns a query, a code or a line, by round
 using Series = std::vector<double>;
 
 struct Results {
-    std::vector<Series> of[SIZES][OPERATIONS], structured[SIZES][KINDS], two[TWOS], read[TEXT_KINDS], written[TEXT_KINDS];
+    std::vector<Series> of[SIZES][OPERATIONS], structured[SIZES][KINDS], two[TWOS], read[TEXT_KINDS], written[TEXT_KINDS], generated[LOAD_LENGTHS];
     std::vector<double> bytes[SIZES];
     std::vector<size_t> failed;
 };
@@ -378,6 +382,26 @@ void texts_of(int kind, bool timed, Results &results) {
     }
 }
 
+// ---- test loads
+
+void loads_of(int row, bool timed, Results &results) {
+    size_t n = load_lengths[row], times = GENERATED / n;
+    List ours, out;
+    for (List *l : {&ours, &out}) l->codes.resize(n), l->schedules.resize(n);
+    glass_generate(n, ours.codes.data(), n, ours.schedules.data(), n);
+    Random r(23);
+    for (int round = 0; round < ROUNDS; round++)
+        for (size_t g : order(GENERATORS, r)) {
+            const Generator &it = generators[g];
+            size_t codes = 0;
+            double t = now();
+            for (size_t u = 0; u < times; u++) codes += it.generate(n, out.codes.data(), n, out.schedules.data(), n).value;
+            t = now() - t;
+            if (codes != times * n || out.codes != ours.codes || out.schedules != ours.schedules) wrong(it.name, "load");
+            if (timed) results.generated[row][g].push_back(t / (double)codes);
+        }
+}
+
 // ---- the tables
 
 double part(Series s, double p) {
@@ -422,8 +446,8 @@ string report(const std::vector<structure> &all, const Results &results, const s
     s += string("- Ours: ") + argv[3] + ".\n";
     for (int i = 4; i < argc; i++) s += string("- ") + argv[i] + ".\n";
     s += "- " + grouped(ROUNDS) + " rounds of " + grouped(QUERIES) + " queries, and of " + grouped(BUILT) +
-         " codes in fresh lists or lines in fresh texts. A figure is the 20th percentile of the rounds, in ns a query (hits, misses, half, chain), a code of a panel, "
-         "a code of the table (build, check, read back), or a line of a text. In brackets the median of ours / other: below 1 ours is faster.\n";
+         " codes in fresh lists or lines in fresh texts, and of about " + grouped(GENERATED) + " codes in test loads. A figure is the 20th percentile of the rounds, in ns a query (hits, misses, half, chain), a code of a panel, "
+         "a code of the table (build, check, read back), a line of a text, or a code of a load. In brackets the median of ours / other: below 1 ours is faster.\n";
     for (int size = 0; size < SIZES; size++) {
         size_t n = sizes[size];
         s += "\n## " + grouped(n) + " codes\n\n|";
@@ -459,8 +483,16 @@ string report(const std::vector<structure> &all, const Results &results, const s
             for (size_t f = 0; f < TEXT_FUNCTIONS; f++) s += " | " + cell(write ? results.written[kind] : results.read[kind], f);
             s += " |\n";
         }
+    s += "\n## Test loads\n\nIn ns a code.\n\n| length";
+    for (const Generator &g : generators) s += string(" | ") + g.name;
+    s += " |\n|---|---|---|---|---|---|---|\n";
+    for (int row = 0; row < LOAD_LENGTHS; row++) {
+        s += "| " + grouped(load_lengths[row]);
+        for (size_t g = 0; g < GENERATORS; g++) s += " | " + cell(results.generated[row], g);
+        s += " |\n";
+    }
     s += "\n## Compared before anything was timed\n\n" + compared;
-    s += "\nAll structures gave the same answers to every query that was timed, and read back the same pairs; all texts were read and written alike.";
+    s += "\nAll structures gave the same answers to every query that was timed, and read back the same pairs; all texts were read and written, and all loads generated, alike.";
     size_t lists = 0;
     for (size_t n : sizes) lists += ROUNDS * (BUILT / n);
     for (size_t i = 0; i < all.size(); i++)
@@ -501,6 +533,7 @@ int main(int argc, char **argv) {
     if (!bytes) wrong(argv[2], "bytes");
     for (auto &o : results.two) o.resize(all.size());
     for (int kind = 0; kind < TEXT_KINDS; kind++) results.read[kind].resize(TEXT_FUNCTIONS), results.written[kind].resize(TEXT_FUNCTIONS);
+    for (auto &o : results.generated) o.resize(GENERATORS);
 
     double t = clock_of(CLOCK_MONOTONIC);
     auto step = [&t](const char *what) {
@@ -519,6 +552,8 @@ int main(int argc, char **argv) {
         step(timed ? "builds, checks and read backs timed" : "builds, checks and read backs compared");
         for (int kind = 0; kind < TEXT_KINDS; kind++) texts_of(kind, timed, results);
         step(timed ? "lists as text timed" : "lists as text compared");
+        for (int row = 0; row < LOAD_LENGTHS; row++) loads_of(row, timed, results);
+        step(timed ? "test loads timed" : "test loads compared");
     }
     builds_of_two(all, same_format, results);
     string s = report(all, results, compared, load, argc, argv);
