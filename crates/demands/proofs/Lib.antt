@@ -1,5 +1,5 @@
 -- In reading order: the words that settle a lookup, and tables from anywhere; then the table of a list: its cells, that it is
--- well-formed, its multipliers, its lookups, its build, other orders of the list, and all together; edits, answers, texts and test loads.
+-- well-formed, its multipliers, its lookups, its build, other orders of the list, and all together; edits, answers, texts, test loads and files.
 pub mod Settle
 pub mod Within
 pub mod Reading
@@ -19,4 +19,5 @@ pub mod TextsWritten
 pub mod Made
 pub mod Texts
 pub mod TestLoads
+pub mod Files
 pub mod Theorems

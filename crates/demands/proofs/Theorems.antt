@@ -1,5 +1,5 @@
 -- Every record of specs/Theorems.antt, by its proof.
-use Rattle.demands.specs.Theorems.{Answering, Keeping, Exporting, Reading, Building, Editing, Texts, TestLoads}
+use Rattle.demands.specs.Theorems.{Answering, Keeping, Exporting, Reading, Building, Editing, Texts, TestLoads, Files}
 use Rattle.demands.proofs.Answering as on-answers
 use Rattle.demands.proofs.Keeping as on-refusals
 use Rattle.demands.proofs.Reading as on-reading
@@ -7,6 +7,7 @@ use Rattle.demands.proofs.Building as on-building
 use Rattle.demands.proofs.Editing as on-editing
 use Rattle.demands.proofs.Texts as on-texts
 use Rattle.demands.proofs.TestLoads as on-test-loads
+use Rattle.demands.proofs.Files as on-files
 
 -- demand 1: what each operation answers, and that a refusal keeps lent memory
 pub answering : Answering
@@ -37,3 +38,7 @@ texts = on-texts.texts
 -- a studio's own test load
 pub test-loads : TestLoads
 test-loads = on-test-loads.test-loads
+
+-- table files
+pub files : Files
+files = on-files.files

@@ -50,3 +50,7 @@ lookedAt p words code =
 -- every number of a list is a word
 abbrev pub AllWords : List ℕ → Type 0
 AllWords numbers = (i : ℕ) → i < length numbers → getD numbers i 0 ≤ 4294967295
+
+-- every number of a list is a byte
+abbrev pub AllBytes : List ℕ → Type 0
+AllBytes numbers = (i : ℕ) → i < length numbers → getD numbers i 0 ≤ 255

@@ -1,6 +1,6 @@
 -- The demands on the product, and the laws of document 02, as theorems of the definitions that its contracts cite: prime 65,537, at most 2,048 pairs.
 -- Statements only; proofs/Theorems.antt has a value of each record.
-use Prim.Native.Nat.{ℕ, _+_, _*_, _<_, _≤_}
+use Prim.Native.Nat.{ℕ, _+_, _*_, _/_, _%_, _<_, _≤_}
 use mathlib.Core.Bool.{cond}
 use mathlib.Core.List.{List, [], _∷_, _++_}
 use mathlib.Core.Logic.{_↔_, _⊎_}
@@ -22,15 +22,15 @@ use Rattle.table.specs.Pairs.{Pair, codesOf, schedulesOf, paired}
 use Rattle.reader.specs.Pairs.{pairsIn, pairsOf, PairsRead}
 use Rattle.builder.specs.Build.{buildOf, builtWords, Built}
 use Rattle.editor.specs.Edit.{without, withPair, tableOfPairs, insertOf, removeOf, Inserted, Removed}
-use Rattle.files.specs.Bytes.{wordsOf}
-use Rattle.listing.specs.Listing.{fileOf}
+use Rattle.files.specs.Bytes.{wordsOf, bytesOf, WordsFilled, BytesFilled}
+use Rattle.listing.specs.Listing.{fileOf, textOf, listingOf}
 use Rattle.suppliers.specs.Text.{Line, TextOf, linesOf, pairsOfText}
 use Rattle.suppliers.specs.Lists.{readListOf, ListRead, listText, writeListOf, ListWritten}
 use Rattle.maker.specs.Making.{madeOf}
 use Rattle.generator.specs.TestLoad.{testCode, testCodes, testSchedules, generateOf, LoadGenerated}
 use Rattle.glass_c.specs.Exports.{BuildShown, PairsShown, InsertShown, RemoveShown, ReadListShown, WriteListShown, GenerateShown}
 use Rattle.lists.specs.Valid.{Valid}
-use Rattle.demands.specs.Lists.{Listed, SamePairs, rightAnswer, enough, AgreeAt, lookedAt, AllWords}
+use Rattle.demands.specs.Lists.{Listed, SamePairs, rightAnswer, enough, AgreeAt, lookedAt, AllWords, AllBytes}
 use Rattle.demands.specs.Answered.{IsRefusal, ResultOr, LookupAnswer, PanelAnswer, FilledOrKept, readAs}
 
 -- the refusals of a check: those that come with 0, and the others
@@ -423,3 +423,35 @@ pub record TestLoads : Type 0 where
       → LoadGenerated 2048 n codes schedules (given (n ∷ [])) codes′ schedules′ → enough n ≤ length words
       → Built 65537 2048 (take n codes′) (take n schedules′) words answer words′
       → (answer ≡ given (wordsNeeded 65537 (testCodes n) ∷ [])) × BeginsWithTable (testCodes n) (testSchedules n) words′
+
+-- Document 02, Change 3: files read by the word
+pub record Files : Type 0 where
+  -- a word for each four bytes
+  pub number : (bytes : List ℕ) → length (wordsOf bytes) ≡ length bytes / 4
+  -- it is made of them, least byte first
+  pub least-first :
+      (bytes : List ℕ) (i : ℕ) → i < length bytes / 4
+      → getD (wordsOf bytes) i 0
+      ≡ getD bytes (4 * i) 0 + 256 * getD bytes (4 * i + 1) 0 + 65536 * getD bytes (4 * i + 2) 0 + 16777216 * getD bytes (4 * i + 3) 0
+  -- the words are read into the first of any lent words that are enough
+  pub reads :
+      (bytes words : List ℕ) (n : ℕ) (words′ : List ℕ) → length bytes / 4 ≤ length words → WordsFilled bytes words n words′
+      → (n ≡ length bytes / 4) × (words′ ≡ over (wordsOf bytes) words)
+  -- each undoes the other: words, made bytes and words again, are the same, and so are bytes that are whole words, made words and bytes again
+  pub words-of-bytes : (words : List ℕ) → AllWords words → wordsOf (bytesOf words) ≡ words
+  pub bytes-of-words : (bytes : List ℕ) → AllBytes bytes → length bytes % 4 ≡ 0 → bytesOf (wordsOf bytes) ≡ bytes
+  -- words that were written as bytes are read again as the same words
+  pub written-read :
+      (words bytes : List ℕ) (n : ℕ) (bytes′ : List ℕ) → AllWords words → 4 * length words ≤ length bytes → BytesFilled words bytes n bytes′
+      → (words₀ : List ℕ) (m : ℕ) (words′ : List ℕ) → length words ≤ length words₀ → WordsFilled (take n bytes′) words₀ m words′
+      → (m ≡ length words) × (words′ ≡ over words words₀)
+  -- bytes that were read as words are written again as the same bytes
+  pub read-written :
+      (bytes words : List ℕ) (n : ℕ) (words′ : List ℕ) → AllBytes bytes → length bytes % 4 ≡ 0 → length bytes / 4 ≤ length words
+      → WordsFilled bytes words n words′
+      → (bytes₀ : List ℕ) (m : ℕ) (bytes′ : List ℕ) → length bytes ≤ length bytes₀ → BytesFilled (take n words′) bytes₀ m bytes′
+      → (m ≡ length bytes) × (bytes′ ≡ over bytes bytes₀)
+  -- the program that lists prints of a file of words what the check says of these words
+  pub lists :
+      (words : List ℕ) → AllWords words → length words ≤ 16384
+      → listingOf 65537 2048 (bytesOf words) ≡ textOf (checkOf 65537 2048 words) words

@@ -6,7 +6,8 @@ use native.Mathlib.Nat.{div-div-eq-div-mul, mod-add-div, mod-eq-of-lt, min-le-le
 use native.Mathlib.Numerals.{add-one}
 use native.Mathlib.Omega.{arith}
 use lib.ListN.{length, getD, take, drop, set, length-take, length-append, length-drop}
-use lib.Seq.{take-length, take-at, take-suc, drop-append-add, drop-drop, getD-take, length-take-le, sets-eq}
+use lib.Seq.{take-length, take-all, take-at, take-suc, drop-append-add, drop-drop, getD-take, length-take-le, sets-eq}
+use Rattle.table.specs.Answers.{over}
 use Rattle.files.specs.Bytes.{wordsOf, bytesOf, BytesFilled}
 
 pub bytes-length : (words : List ℕ) → length (bytesOf words) ≡ 4 * length words
@@ -35,6 +36,29 @@ unfolding wordsOf bytesOf
 words-of-bytes [] h = refl
 words-of-bytes (w ∷ words) h =
     rw (word-same w (h 0 (omega arith)), words-of-bytes words (λ i l. h (suc i) (omega arith)))
+
+-- and bytes that are whole words, made words and bytes again, are the same
+pub bytes-of-words :
+    (bytes : List ℕ) → ((i : ℕ) → i < length bytes → getD bytes i 0 < 256) → length bytes % 4 ≡ 0 → bytesOf (wordsOf bytes) ≡ bytes
+unfolding wordsOf bytesOf
+bytes-of-words [] h e = refl
+bytes-of-words (a ∷ []) h e = absurd (omega arith)
+bytes-of-words (a ∷ b ∷ []) h e = absurd (omega arith)
+bytes-of-words (a ∷ b ∷ c ∷ []) h e = absurd (omega arith)
+bytes-of-words (a ∷ b ∷ c ∷ d ∷ bytes) h e =
+    let w = a + 256 * b + 65536 * c + 16777216 * d in
+    let first : a < 256 = h 0 (omega arith) in
+    let second : b < 256 = h 1 (omega arith) in
+    let third : c < 256 = h 2 (omega arith) in
+    let fourth : d < 256 = h 3 (omega arith) in
+    let above-first : w / 256 ≡ b + 256 * c + 65536 * d = omega arith in
+    let above-second : w / 65536 ≡ c + 256 * d = omega arith in
+    let above-third : w / 16777216 ≡ d = omega arith in
+    let one : w % 256 ≡ a = omega arith in
+    let two : w / 256 % 256 ≡ b = rw above-first (omega arith) in
+    let three : w / 65536 % 256 ≡ c = rw above-second (omega arith) in
+    let four : w / 16777216 % 256 ≡ d = rw above-third (omega arith) in
+    rw (one, two, three, four, bytes-of-words bytes (λ i l. h (suc (suc (suc (suc i)))) (omega arith)) (omega arith))
 
 -- four stores, one after the other, are the bytes of a word
 pub word-stored :
@@ -110,3 +134,17 @@ module _ {words old : List ℕ} {n : ℕ} where
         count = omega (arith, f .count, size);
         bytes = f .written ∙ rw (all, take-length, size);
       }
+
+-- where there is room for them, the bytes of all words are written
+module _ {words old : List ℕ} {n : ℕ} {new : List ℕ} (f : BytesFilled words old n new) (h : 4 * length words ≤ length old) where
+  all-fit : fitting words old ≡ words
+  all-fit = take-all (length old / 4) words (omega arith)
+
+  pub filled-number : n ≡ 4 * length words
+  filled-number = f .count ∙ rw all-fit (bytes-length words)
+
+  pub filled-over : new ≡ over (bytesOf words) old
+  filled-over = f .bytes ∙ rw all-fit
+
+  pub filled-bytes : take n new ≡ bytesOf words
+  filled-bytes = rw (filled-over, filled-number) (take-at (bytesOf words) _ _ (bytes-length words))

@@ -7,6 +7,7 @@ use native.Mathlib.Numerals.{add-one}
 use native.Mathlib.Omega.{arith}
 use lib.ListN.{length, getD, take, drop, set, length-take, length-set, length-append}
 use lib.Seq.{take-length, take-all, take-at, getD-take}
+use Rattle.table.specs.Answers.{over}
 use Rattle.files.specs.Bytes.{wordsOf, WordsFilled}
 use Rattle.files.specs.code.Words.{wordAt}
 
@@ -87,6 +88,15 @@ module _ {bytes old : List ℕ} {n : ℕ} {new : List ℕ} (f : WordsFilled byte
   pub filled-fits : n ≤ length new
   filled-fits = omega (arith, f .count, simp length-append at (ap length (f .words)))
 
-  pub filled-whole : length bytes ≤ 4 * length old → take n new ≡ wordsOf bytes
-  filled-whole h =
-      rw (f .words, f .count) (take-at (fitting bytes old) _ _ refl ∙ take-all (length old) (wordsOf bytes) (omega (arith, words-length bytes)))
+  module _ (h : length bytes / 4 ≤ length old) where
+    all-fit : fitting bytes old ≡ wordsOf bytes
+    all-fit = take-all (length old) (wordsOf bytes) (omega (arith, words-length bytes))
+
+    pub filled-number : n ≡ length bytes / 4
+    filled-number = f .count ∙ rw all-fit (words-length bytes)
+
+    pub filled-over : new ≡ over (wordsOf bytes) old
+    filled-over = f .words ∙ rw all-fit
+
+    pub filled-whole : take n new ≡ wordsOf bytes
+    filled-whole = rw (filled-over, filled-number) (take-at (wordsOf bytes) _ _ (words-length bytes))

@@ -1,2 +1,2 @@
--- One word of a file.
+-- The words of a file one by one.
 pub mod Words

@@ -36,7 +36,8 @@ fn smaller(a: usize, b: usize) -> usize
 }
 
 // Fills the first lent words with those of the bytes, as many as fit, and answers how many they are. Bytes after the last whole word are left
-// out, and the words after those filled are kept.
+// out, and the words after those filled are kept. A step makes one word of its four bytes: i is the word's index, and each step leaves one word
+// fewer (`wordsLeft`), so there are as many steps as words.
 pub fn words_of(bytes: &[u8], words: &mut [u32]) -> usize
     ensures { λ r. ⌜ WordsFilled (now (bytes .entry)) (now (words .entry)) r (now (words .exit)) ⌝ }
 {

@@ -1,7 +1,7 @@
--- `files::words_of` meets its contract. The loop's invariant: the first i of the words that fit are written. The measure is what is left of n.
-use Prim.Native.Nat.{_-_}
+-- `files::words_of` meets its contract. The loop's invariant: the first i of the words that fit are written. The measure is the words that are left.
 use native.Mathlib.Omega.{arith}
 use borrow.Author.Needs.{needs}
+use Rattle.files.specs.code.Words.{wordsLeft}
 use Rattle.files.proofs.WordLaws.{WordsSoFar, words-start, words-more, words-all}
 use Rattle.files.proofs.words_of.Statement.{statement}
 use Rattle.files.proofs.words_of.Tie as tie
@@ -10,7 +10,7 @@ abbrev Inv-loop : tie.InvT-loop
 Inv-loop bytes words₀ n i₀ words i = WordsSoFar bytes words₀ n i words
 
 abbrev μ-loop : tie.MeasureT-loop
-μ-loop bytes words₀ n i₀ words i = n - i
+μ-loop bytes words₀ n i₀ words i = wordsLeft n i
 
 pub words-of-spec : {M : Type 1} → statement M
 words-of-spec =
