@@ -7,45 +7,27 @@ ghost use lib.ListN.{length};
 // The most codes of a table whose words are printed.
 const SHORT: u32 = 32;
 
-fn wide(x: u8) -> u32 {
-    x as u32
-}
-
-fn wide_word(x: u32) -> u64 {
+fn wide(x: u32) -> u64 {
     x as u64
 }
 
-enum Next {
-    Word(u32),
-    End,
-}
-
-fn read_word() -> Next {
-    let mut bytes = [0u8; 4];
-    if io::read_full(0, &mut bytes) < 4 {
-        return Next::End;
+// Fills the list from the next bytes of the input, as many as are lent; false where the input ends first.
+fn read_into(bytes: &mut [u8], list: &mut [u32]) -> bool {
+    if io::read_full(0, bytes) < bytes.len() {
+        return false;
     }
-    word(&bytes)
-}
-
-fn word(bytes: &[u8; 4]) -> Next {
-    let low = (wide(bytes[0]) as u64) + 256 * (wide(bytes[1]) as u64);
-    let high = (wide(bytes[2]) as u64) + 256 * (wide(bytes[3]) as u64);
-    Next::Word(((low + 65536 * high) % 4294967296) as u32)
-}
-
-// Fills the list from the input; false where the input ends first.
-fn read_list(list: &mut [u32]) -> bool {
-    let mut i: usize = 0;
-    while i < list.len() {
-        let next = read_word();
-        let Next::Word(x) = next else {
-            return false;
-        };
-        list[i] = x;
-        i = i + 1;
-    }
+    files::words_of(bytes, list);
     true
+}
+
+// Fills the list from the input; false where the input ends first, or the list is too long.
+fn read_list(list: &mut [u32]) -> bool {
+    if 2048 < list.len() {
+        return false;
+    }
+    let mut bytes = [0u8; 8192];
+    let n = 4 * list.len();
+    read_into(&mut bytes[..n], list)
 }
 
 // The list from its last element to its first.
@@ -70,7 +52,7 @@ fn print_field(i: usize, x: u64) {
 fn print_words(words: &[u32]) {
     let mut i: usize = 0;
     while i < words.len() {
-        print_field(i, wide_word(words[i]));
+        print_field(i, wide(words[i]));
         i = i + 1;
     }
 }
@@ -131,13 +113,8 @@ fn read_and_build(
     true
 }
 
-// The next list; false at the end of the input.
-fn next_list() -> bool {
-    let next = read_word();
-    let Next::Word(size) = next else {
-        return false;
-    };
-    let n = size as usize;
+// One list of n pairs; false where the input ends first, or the list is too long.
+fn build_next(n: usize) -> bool {
     if 2048 < n {
         return false;
     }
@@ -151,6 +128,19 @@ fn next_list() -> bool {
         &mut codes2[..n],
         &mut schedules2[..n],
     )
+}
+
+fn size(x: u32) -> usize {
+    x as usize
+}
+
+// The next list; false at the end of the input.
+fn next_list() -> bool {
+    let mut n = [0u32; 1];
+    if !read_list(&mut n) {
+        return false;
+    }
+    build_next(size(n[0]))
 }
 
 fn main() {

@@ -1,20 +1,15 @@
--- `compare::next_list` is safe: the parts that it lends are as long as they say.
+-- `compare::build_next` is safe: the parts that it lends are as long as they say.
 use borrow.Author.Needs.{needs}
 use mathlib.Core.Path.{sym}
 use native.Mathlib.Omega.{arith}
 use lib.Seq.{length-take-le}
-use Rattle.compare.proofs.next_list.Statement.{statement}
-use Rattle.compare.proofs.next_list.Tie as tie
+use Rattle.compare.proofs.build_next.Statement.{statement}
+use Rattle.compare.proofs.build_next.Tie as tie
 
-pub next-list-spec : {M : Type 1} → statement M
-next-list-spec =
+pub build-next-spec : {M : Type 1} → statement M
+build-next-spec =
     tie.close
     (tie.spec
-    (λ c κs. search needs)
-    (λ c. search needs)
-    (λ c. search needs)
-    (λ c. search needs)
-    (λ c. search needs)
     (λ c. search needs)
     (λ c. search needs)
     (λ c. sym (length-take-le _ _ (omega arith)))
