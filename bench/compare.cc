@@ -2,6 +2,7 @@
 
 #include "generators.h"
 #include "glass.h"
+#include "listers.h"
 #include "lists.h"
 
 #include <algorithm>
@@ -239,12 +240,6 @@ uint32_t any_number(Random &r) {
     return ends[r.below(sizeof ends / sizeof *ends)];
 }
 
-std::string text_of(const Words &codes, const Words &schedules) {
-    std::string s;
-    for (size_t i = 0; i < codes.size(); i++) s += std::to_string(codes[i]) + "," + std::to_string(schedules[i]) + "\n";
-    return s;
-}
-
 // A byte is changed, put in or taken out, or the text is cut, or a number is longer or has zeros before it.
 void damage(std::string &text, Random &r) {
     static const char near[] = "0123456789,,\n\n\r /:;+-a";
@@ -311,7 +306,7 @@ uint64_t compare_texts(uint32_t lists) {
         uint32_t n = turn % 1000 == 0 ? 2048 + r.below(2) : turn % 100 == 0 ? r.below(2050) : r.below(20);
         Words codes, schedules;
         for (uint32_t i = 0; i < n; i++) codes.push_back(any_number(r)), schedules.push_back(any_number(r));
-        const std::string text = text_of(codes, schedules);
+        const std::string text = lines_of(codes, ',', schedules);
         texts_read(text, n + r.below(3) - (n && r.below(4) == 0), n + r.below(3) - (n && r.below(4) == 0), r), texts++;
         for (int i = 0; i < 8; i++, texts++) {
             std::string t = text;
@@ -360,6 +355,81 @@ uint64_t compare_loads() {
     return calls;
 }
 
+// ---- words of bytes, the listing
+
+// The bytes begin anywhere.
+void words_made(size_t bytes_len, size_t words_len, Random &r) {
+    const Bytes given = lent<uint8_t>(bytes_len, r), given_before = given;
+    const size_t at = r.below(2 * AROUND + 1);
+    const Words before = lent(words_len, r);
+    Words first;
+    size_t a = 0;
+    for (const WordMaker &m : word_makers) {
+        Words w = before;
+        size_t b = m.words_of(given.data() + at, bytes_len, w.data() + AROUND, words_len);
+        if (&m == word_makers) a = b, first = w;
+        if (a != b) differ("words of bytes", m.name, "the answer");
+        if (w != first) differ("words of bytes", m.name, "the lent words");
+        if (given != given_before) differ("words of bytes", m.name, "the bytes");
+    }
+}
+
+// Every length up to 300 bytes in words that are enough, then others, of which some are too few. Gives the number of calls.
+uint64_t compare_words() {
+    Random r(79);
+    uint64_t calls = 0;
+    for (; calls <= 300; calls++) words_made(calls, calls / 4, r);
+    for (; calls < 40000; calls++) {
+        size_t n = calls % 100 == 0 ? r.below(65541) : r.below(calls % 10 ? 200 : 5000);
+        words_made(n, r.below(4) ? n / 4 + r.below(3) : r.below((uint32_t)n / 4 + 1), r);
+    }
+    return calls;
+}
+
+void file_listed(const Bytes &file, const Bytes &before) {
+    const Bytes file_before = file;
+    Bytes first;
+    size_t a = 0;
+    for (const Lister &l : listers) {
+        Bytes t = before;
+        size_t b = l.list(file.data(), file.size(), t.data() + AROUND);
+        if (&l == listers) a = b, first = t;
+        if (a != b) differ("list", l.name, "the answer");
+        for (size_t i = AROUND + b; i < AROUND + b + l.after; i++) t[i] = before[i];
+        if (t != first) differ("list", l.name, "the lent bytes");
+        if (file != file_before) differ("list", l.name, "the file");
+    }
+    uint32_t number = 0;
+    std::sscanf(std::string(first.begin() + AROUND, first.begin() + AROUND + (ptrdiff_t)a).c_str(), "refused %u", &number);
+    seen["list"][number]++;
+}
+
+// The files of tables, whole, damaged, cut anywhere or with bytes after them, up to four more than a file may have. Gives their number.
+uint64_t compare_listings(uint32_t lists) {
+    Random r(83);
+    uint64_t files = 0;
+    for (uint32_t turn = 0; turn < lists; turn++) {
+        List l = any_list(turn, r);
+        Words table(glass_words(l.codes.size()));
+        glass_answer a = glass_build(l.codes.data(), l.codes.size(), l.schedules.data(), l.schedules.size(), table.data(), table.size());
+        if (a.number) continue;
+        table.resize(a.value);
+        const Bytes before = lent<uint8_t>(FILES_MOST_TEXT, r);
+        for (int i = 0; i < 12; i++, files++) {
+            Words t = table;
+            if (i > 2) damage(t, r);
+            const uint8_t *bytes = (const uint8_t *)t.data();
+            Bytes file(bytes, bytes + 4 * t.size());
+            if (i == 1 || i == 3) file.resize(r.below((uint32_t)file.size() + 1));
+            if (i == 2 || i == 4)
+                for (size_t len = r.below(2) ? 65540 - r.below(10) : file.size() + r.below(100); file.size() < len;) file.push_back((uint8_t)r.next());
+            file.reserve(1); // a pointer that is not null
+            file_listed(file, before);
+        }
+    }
+    return files;
+}
+
 } // namespace
 
 std::string compare_all() {
@@ -402,13 +472,14 @@ std::string compare_all() {
         asked(t, {1, 2, 3}, r);
     }
     const uint32_t written = 40000;
-    const uint64_t texts = compare_texts(written), loads = compare_loads();
+    const uint64_t texts = compare_texts(written), loads = compare_loads(), words = compare_words(), files = compare_listings(4000);
 
     std::string s = grouped(lists) + " lists, " + grouped(damaged) + " damaged tables, " + grouped(other) +
                     " well-formed tables whose multipliers are not least, " + grouped(senseless) + " runs of words that are no table; of " +
                     grouped(exhaustive) + " tables every code from 0 to 65,538; " + grouped(written) + " lists written as text, " + grouped(texts) +
-                    " texts read, most of them damaged; " + grouped(loads) + " test loads. All answers and all lent memory were equal. ";
-    s += "How often each number was answered (0: a result, 1000: absent or unknown):\n\n";
+                    " texts read, most of them damaged; " + grouped(loads) + " test loads; " + grouped(words) + " runs of bytes made words; " + grouped(files) +
+                    " files listed, most of them damaged. All answers and all lent memory were equal. ";
+    s += "How often each number was answered, or listed as refused (0: a result, 1000: absent or unknown):\n\n";
     for (const auto &o : seen) {
         s += "- " + o.first + ":";
         for (const auto &a : o.second) s += " " + std::to_string(a.first) + " (" + grouped(a.second) + ")";

@@ -36,6 +36,13 @@ struct List {
     }
 };
 
+// the lines of the pairs
+inline std::string lines_of(const std::vector<uint32_t> &codes, char between, const std::vector<uint32_t> &schedules) {
+    std::string s;
+    for (size_t i = 0; i < codes.size(); i++) s += std::to_string(codes[i]) + between + std::to_string(schedules[i]) + "\n";
+    return s;
+}
+
 inline List random_list(size_t n, Random &r) {
     static std::vector<bool> in(65537);
     List l;

@@ -9,6 +9,7 @@
 #include "generators.h"
 #include "glass.h"
 #include "gperf_bytes.h"
+#include "listers.h"
 #include "lists.h"
 #include "peers.h"
 
@@ -84,11 +85,15 @@ enum { TEXT_KINDS = 5 };
 const size_t load_lengths[] = {1, 16, 256, 999, 2048};
 enum { LOAD_LENGTHS = 5, GENERATED = 65536 };
 
-// ns a query, a code or a line, by round
+const size_t byte_counts[] = {108, 4096, 65536};
+enum { BYTE_COUNTS = 3, BYTES_READ = 1 << 22 };
+
+// ns a query, a code, a line or a call, by round
 using Series = std::vector<double>;
 
 struct Results {
     std::vector<Series> of[SIZES][OPERATIONS], structured[SIZES][KINDS], two[TWOS], read[TEXT_KINDS], written[TEXT_KINDS], generated[LOAD_LENGTHS];
+    std::vector<Series> words[BYTE_COUNTS], listed[SIZES];
     std::vector<double> bytes[SIZES];
     std::vector<size_t> failed;
 };
@@ -118,6 +123,21 @@ std::vector<size_t> order(size_t count, Random &r) {
         o[i] = o[at], o[at] = i;
     }
     return o;
+}
+
+// Functions by name do the same work: adds the time of each to what it spent.
+template <class Function, size_t count, class Work, class Right>
+void in_turn(const Function (&functions)[count], Random &r, std::vector<double> &spent, const char *what, Work work, Right right) {
+    for (size_t f : order(count, r)) {
+        double t = now();
+        work(functions[f]);
+        spent[f] += now() - t;
+        if (!right(functions[f])) wrong(functions[f].name, what);
+    }
+}
+
+void add_round(std::vector<Series> &results, const std::vector<double> &spent, double units) {
+    for (size_t f = 0; f < spent.size(); f++) results[f].push_back(spent[f] / units);
 }
 
 // ---- lookups
@@ -331,11 +351,8 @@ struct Text {
 
 Text text_of(const TextKind &kind, Random &r) {
     Text t;
-    string s;
-    for (size_t i = 0; i < kind.lines; i++) {
-        t.list.add(kind.any_code ? r.next() : 1 + r.below(65536), r);
-        s += std::to_string(t.list.codes[i]) + "," + std::to_string(t.list.schedules[i]) + "\n";
-    }
+    for (size_t i = 0; i < kind.lines; i++) t.list.add(kind.any_code ? r.next() : 1 + r.below(65536), r);
+    string s = lines_of(t.list.codes, ',', t.list.schedules);
     t.bytes.assign(s.c_str(), s.c_str() + s.size() + 1);
     return t;
 }
@@ -375,10 +392,7 @@ void texts_of(int kind, bool timed, Results &results) {
                 }
             }
         }
-        for (size_t f = 0; timed && f < TEXT_FUNCTIONS; f++) {
-            results.read[kind][f].push_back(read[f] / BUILT);
-            results.written[kind][f].push_back(write[f] / BUILT);
-        }
+        if (timed) add_round(results.read[kind], read, BUILT), add_round(results.written[kind], write, BUILT);
     }
 }
 
@@ -390,16 +404,97 @@ void loads_of(int row, bool timed, Results &results) {
     for (List *l : {&ours, &out}) l->codes.resize(n), l->schedules.resize(n);
     glass_generate(n, ours.codes.data(), n, ours.schedules.data(), n);
     Random r(23);
-    for (int round = 0; round < ROUNDS; round++)
-        for (size_t g : order(GENERATORS, r)) {
-            const Generator &it = generators[g];
-            size_t codes = 0;
-            double t = now();
+    for (int round = 0; round < ROUNDS; round++) {
+        std::vector<double> spent(GENERATORS);
+        size_t codes;
+        auto generate = [&](const Generator &it) {
+            codes = 0;
             for (size_t u = 0; u < times; u++) codes += it.generate(n, out.codes.data(), n, out.schedules.data(), n).value;
-            t = now() - t;
-            if (codes != times * n || out.codes != ours.codes || out.schedules != ours.schedules) wrong(it.name, "load");
-            if (timed) results.generated[row][g].push_back(t / (double)codes);
+        };
+        auto right = [&](const Generator &) { return codes == times * n && out.codes == ours.codes && out.schedules == ours.schedules; };
+        in_turn(generators, r, spent, "load", generate, right);
+        if (timed) add_round(results.generated[row], spent, (double)codes);
+    }
+}
+
+// ---- words of bytes, the listing
+
+// Bytes and words are half a page apart: where they are whole pages apart, loads wait for stores to the same place of another page.
+struct Lent {
+    alignas(4096) uint8_t bytes[65536];
+    uint8_t apart[2048];
+    uint32_t words[16384];
+};
+
+void words_of(int row, bool timed, Results &results) {
+    static Lent lent;
+    size_t n = byte_counts[row], times = BYTES_READ / n;
+    Random r(29);
+    for (int round = 0; round < ROUNDS; round++) {
+        for (size_t i = 0; i < n; i++) lent.bytes[i] = (uint8_t)r.next();
+        std::vector<double> spent(WORD_MAKERS);
+        size_t words;
+        auto make = [&](const WordMaker &it) {
+            words = 0;
+            for (size_t u = 0; u < times; u++) words += it.words_of(lent.bytes, n, lent.words, n / 4);
+        };
+        // the least byte of a word is its first here
+        auto right = [&](const WordMaker &) {
+            bool same = words == times * (n / 4) && !std::memcmp(lent.words, lent.bytes, n);
+            std::memset(lent.words, 0, n);
+            return same;
+        };
+        in_turn(word_makers, r, spent, "words", make, right);
+        if (timed) add_round(results.words[row], spent, (double)times);
+    }
+}
+
+// A table file, and its listing.
+struct File {
+    std::vector<uint8_t> bytes;
+    string text;
+};
+
+std::vector<File> files_of(size_t n, int round) {
+    Lists ls = lists_of(RANDOM, n, BUILT, round);
+    std::vector<File> files(ls.lists.size());
+    Words words(glass_words(n));
+    for (size_t i = 0; i < files.size(); i++) {
+        const List &l = ls.lists[i], &s = ls.sorted[i];
+        glass_answer a = glass_build(l.codes.data(), n, l.schedules.data(), n, words.data(), words.size());
+        const uint8_t *bytes = (const uint8_t *)words.data();
+        files[i].bytes.assign(bytes, bytes + 4 * a.value);
+        files[i].text = "codes " + std::to_string(n) + " cells " + std::to_string(words[1]) + " multiplier " + std::to_string(words[2]) + "\n" +
+                        lines_of(s.codes, ' ', s.schedules);
+    }
+    return files;
+}
+
+// Fresh tables, some at a time.
+void listed(int size, bool timed, Results &results) {
+    static uint8_t text[FILES_MOST_TEXT];
+    size_t n = sizes[size], at_once = std::max<size_t>(1, 4096 / n);
+    Random r(31);
+    for (int round = 0; round < ROUNDS; round++) {
+        const std::vector<File> files = files_of(n, round);
+        std::vector<double> spent(LISTERS);
+        for (auto from = files.begin(); from < files.end(); from += (ptrdiff_t)at_once) {
+            const auto end = from + (ptrdiff_t)at_once;
+            size_t bytes = 0, got;
+            for (auto f = from; f < end; f++) bytes += f->text.size();
+            auto list = [&](const Lister &it) {
+                got = 0;
+                for (auto f = from; f < end; f++) got += it.list(f->bytes.data(), f->bytes.size(), text);
+            };
+            auto right = [&](const Lister &it) {
+                for (auto f = from; !timed && f < end; f++)
+                    if (it.list(f->bytes.data(), f->bytes.size(), text) != f->text.size() || std::memcmp(text, f->text.data(), f->text.size())) return false;
+                return got == bytes;
+            };
+            in_turn(listers, r, spent, "listing", list, right);
         }
+        if (timed) add_round(results.listed[size], spent, (double)(files.size() * (n + 1)));
+    }
 }
 
 // ---- the tables
@@ -446,8 +541,9 @@ string report(const std::vector<structure> &all, const Results &results, const s
     s += string("- Ours: ") + argv[3] + ".\n";
     for (int i = 4; i < argc; i++) s += string("- ") + argv[i] + ".\n";
     s += "- " + grouped(ROUNDS) + " rounds of " + grouped(QUERIES) + " queries, and of " + grouped(BUILT) +
-         " codes in fresh lists or lines in fresh texts, and of about " + grouped(GENERATED) + " codes in test loads. A figure is the 20th percentile of the rounds, in ns a query (hits, misses, half, chain), a code of a panel, "
-         "a code of the table (build, check, read back), a line of a text, or a code of a load. In brackets the median of ours / other: below 1 ours is faster.\n";
+         " codes in fresh lists or tables or lines in fresh texts, of about " + grouped(GENERATED) + " codes in test loads, and of about " +
+         grouped(BYTES_READ) + " bytes made words. A figure is the 20th percentile of the rounds, in ns a query (hits, misses, half, chain), a code of a panel, "
+         "a code of the table (build, check, read back), a line of a text or a listing, a code of a load, or all the bytes of a row. In brackets the median of ours / other: below 1 ours is faster.\n";
     for (int size = 0; size < SIZES; size++) {
         size_t n = sizes[size];
         s += "\n## " + grouped(n) + " codes\n\n|";
@@ -483,16 +579,25 @@ string report(const std::vector<structure> &all, const Results &results, const s
             for (size_t f = 0; f < TEXT_FUNCTIONS; f++) s += " | " + cell(write ? results.written[kind] : results.read[kind], f);
             s += " |\n";
         }
-    s += "\n## Test loads\n\nIn ns a code.\n\n| length";
-    for (const Generator &g : generators) s += string(" | ") + g.name;
-    s += " |\n|---|---|---|---|---|---|---|\n";
-    for (int row = 0; row < LOAD_LENGTHS; row++) {
-        s += "| " + grouped(load_lengths[row]);
-        for (size_t g = 0; g < GENERATORS; g++) s += " | " + cell(results.generated[row], g);
-        s += " |\n";
-    }
+    // a row for each size, a column for each function
+    auto table = [&](const char *head, const auto &functions, const auto &rows, const std::vector<Series> *of) {
+        s += head;
+        for (const auto &f : functions) s += string(" | ") + f.name;
+        s += " |\n|---|";
+        for (size_t f = 0; f < std::size(functions); f++) s += "---|";
+        s += "\n";
+        for (size_t row = 0; row < std::size(rows); row++) {
+            s += "| " + grouped(rows[row]);
+            for (size_t f = 0; f < std::size(functions); f++) s += " | " + cell(of[row], f);
+            s += " |\n";
+        }
+    };
+    table("\n## Test loads\n\nIn ns a code.\n\n| length", generators, load_lengths, results.generated);
+    table("\n## Words of bytes\n\nIn ns for all the bytes of a row.\n\n| bytes", word_makers, byte_counts, results.words);
+    table("\n## The listing\n\nFrom the bytes of a table file to the text in lent memory, in ns a line.\n\n| codes", listers, sizes, results.listed);
     s += "\n## Compared before anything was timed\n\n" + compared;
-    s += "\nAll structures gave the same answers to every query that was timed, and read back the same pairs; all texts were read and written, and all loads generated, alike.";
+    s += "\nAll structures gave the same answers to every query that was timed, and read back the same pairs; all texts were read and written, all loads "
+         "generated, all bytes made words and all tables listed alike.";
     size_t lists = 0;
     for (size_t n : sizes) lists += ROUNDS * (BUILT / n);
     for (size_t i = 0; i < all.size(); i++)
@@ -534,6 +639,8 @@ int main(int argc, char **argv) {
     for (auto &o : results.two) o.resize(all.size());
     for (int kind = 0; kind < TEXT_KINDS; kind++) results.read[kind].resize(TEXT_FUNCTIONS), results.written[kind].resize(TEXT_FUNCTIONS);
     for (auto &o : results.generated) o.resize(GENERATORS);
+    for (auto &o : results.words) o.resize(WORD_MAKERS);
+    for (auto &o : results.listed) o.resize(LISTERS);
 
     double t = clock_of(CLOCK_MONOTONIC);
     auto step = [&t](const char *what) {
@@ -554,6 +661,9 @@ int main(int argc, char **argv) {
         step(timed ? "lists as text timed" : "lists as text compared");
         for (int row = 0; row < LOAD_LENGTHS; row++) loads_of(row, timed, results);
         step(timed ? "test loads timed" : "test loads compared");
+        for (int row = 0; row < BYTE_COUNTS; row++) words_of(row, timed, results);
+        for (int size = 0; size < SIZES; size++) listed(size, timed, results);
+        step(timed ? "words of bytes and listings timed" : "words of bytes and listings compared");
     }
     builds_of_two(all, same_format, results);
     string s = report(all, results, compared, load, argc, argv);
