@@ -1,6 +1,6 @@
 #!/usr/bin/env python3
-"""A second implementation of the build of document 01, of lists as text and of test loads (document 02, Changes 1 and 2),
-to compare the proved ones with.
+"""A second implementation of the build, the check and the listing of document 01, of lists as text and of test loads
+(document 02, Changes 1 and 2), to compare the proved ones with.
 
 Written from the papers alone, with the standard library alone.
 
@@ -16,6 +16,9 @@ Written from the papers alone, with the standard library alone.
       prints
   tools/second_program.py fresh-tables SEED COUNT PROGRAM
       makes COUNT texts from SEED, runs PROGRAM (`make_table`) on each and compares what it prints
+  tools/second_program.py fresh-files SEED COUNT PROGRAM
+      makes COUNT table files, whole and damaged, from SEED, runs PROGRAM (`list_table`) on each and compares what it
+      prints; about every fourth is handed over in pieces through a pipe
 
 All numbers of an input are four bytes, least first.
 
@@ -40,12 +43,15 @@ Output:
   is refused, `built n c k total digest` of the load's table, and where it is listed, the listing of document 01
 """
 import collections
+import itertools
 import pathlib
 import random
 import re
 import struct
 import subprocess
 import sys
+import tempfile
+import time
 import typing
 
 P = 65537
@@ -67,9 +73,8 @@ CRATES = pathlib.Path(__file__).resolve().parent.parent / "crates"
 # ---- a table
 
 
-def block_loads(codes, k):
-    """The codes of each block, or None once the squares of their numbers pass 3n - 2."""
-    n = len(codes)
+def block_loads(codes, k, n):
+    """The codes of each of n blocks, or None once the squares of their numbers pass 3n - 2."""
     blocks = [[] for _ in range(n)]
     c = 0
     for a in codes:
@@ -81,31 +86,31 @@ def block_loads(codes, k):
     return blocks
 
 
-def parts(block, q):
-    """Whether q puts the codes of a block in different cells."""
-    size = len(block) ** 2
+def parts(block, q, size):
+    """Whether q puts the codes of a block in different ones of its cells."""
     return len({q * a % P % size for a in block}) == len(block)
+
+
+def laid_out(k, blocks, sizes, multipliers, schedule):
+    """The words of a table whose blocks have these codes, these numbers of cells and these multipliers."""
+    starts, cells = [], []
+    for block, size, q in zip(blocks, sizes, multipliers):
+        starts.append(len(cells))
+        part = [0] * size
+        for a in block:
+            part[q * a % P % size] = a
+        cells += part
+    return [len(blocks), len(cells), k] + starts + multipliers + cells + [schedule.get(a, 0) for a in cells]
 
 
 def build(pairs):
     """The words of the table of a valid list."""
     codes = [a for a, _ in pairs]
-    schedule = dict(pairs)
-    n = len(codes)
-    if n == 0:
-        return [0, 0, 1]
-    k, blocks = next((k, b) for k in range(1, P) for b in [block_loads(codes, k)] if b is not None)
-    starts, multipliers, cells = [], [], []
-    for block in blocks:
-        q = next(q for q in range(1, P) if parts(block, q)) if block else 1
-        starts.append(len(cells))
-        multipliers.append(q)
-        size = len(block) ** 2
-        part = [0] * size
-        for a in block:
-            part[q * a % P % size] = a
-        cells += part
-    return [n, len(cells), k] + starts + multipliers + cells + [schedule.get(a, 0) for a in cells]
+    # an empty list lets every k pass and an empty block every q, so that the least is the 1 that they have
+    k, blocks = next((k, b) for k in range(1, P) for b in [block_loads(codes, k, len(codes))] if b is not None)
+    sizes = [len(block) ** 2 for block in blocks]
+    multipliers = [next(q for q in range(1, P) if parts(block, q, size)) for block, size in zip(blocks, sizes)]
+    return laid_out(k, blocks, sizes, multipliers, dict(pairs))
 
 
 def build_refused(pairs):
@@ -119,10 +124,78 @@ def build_refused(pairs):
     return next(((number, where.index(True)) for number, where in faults if True in where), None)
 
 
+def bounds(n, c):
+    """Where the four arrays of a table start, and the total."""
+    return [3, 3 + n, 3 + 2 * n, 3 + 2 * n + c, 3 + 2 * n + 2 * c]
+
+
+def arrays(words):
+    """The starts, the multipliers, the codes and the schedules of a table."""
+    at = bounds(*words[:2])
+    return [words[start:end] for start, end in zip(at, at[1:])]
+
+
+def own_cell(a, k, starts, ends, multipliers):
+    """The cell that is a code's own by k and q, None where its block has no cells."""
+    j = k * a % P % len(starts)
+    cells = ends[j] - starts[j]
+    return starts[j] + multipliers[j] * a % P % cells if cells else None
+
+
+def arrays_refused(words):
+    """The number and the value of a check's refusal by 16 to 21, None for a well-formed table."""
+    n, c, k = words[:3]
+    starts, multipliers, codes, schedules = arrays(words)
+    ends = starts[1:] + [c]
+    # a test is worked out only where none before it holds: own cells need starts that rise
+    faults = [
+        (16, (start != 0 if j == 0 else not starts[j - 1] <= start <= c for j, start in enumerate(starts))),
+        (17, (not 1 <= q < P for q in multipliers)),
+        (18, (a >= P or s > 999 or (a == 0) != (s == 0) for a, s in zip(codes, schedules))),
+        (19, (a != 0 and own_cell(a, k, starts, ends, multipliers) != i for i, a in enumerate(codes))),
+        (20, (end - start != sum(a != 0 for a in codes[start:end]) ** 2 for start, end in zip(starts, ends))),
+    ]
+    first = next(((number, i) for number, where in faults for i, fault in enumerate(where) if fault), None)
+    found = sum(a != 0 for a in codes)
+    return first or ((21, found) if found != n else None)
+
+
+def check(words):
+    """The number and the value of a check's refusal, None for a well-formed table."""
+    if len(words) < 3:
+        return 11, 0
+    n, c, k = words[:3]
+    if n > MOST_PAIRS:
+        return 12, 0
+    if c > max(3 * n - 2, 0):
+        return 13, 0
+    if not 1 <= k < P:
+        return 14, 0
+    total = bounds(n, c)[-1]
+    return (15, total) if len(words) < total else arrays_refused(words)
+
+
 def listing(words, pairs):
     """What `list_table` prints of the table of a list."""
     lines = ["codes %d cells %d multiplier %d\n" % tuple(words[:3])] + ["%d %d\n" % pair for pair in sorted(pairs)]
     return "".join(lines).encode()
+
+
+def file_refused(data):
+    """The number and the value of the refusal to list a file, None for the file of a well-formed table."""
+    if len(data) > MOST_FILE:
+        return 61, 0
+    return (62, 0) if len(data) % 4 else check(unpacked(data))
+
+
+def file_listing(data):
+    """What `list_table` prints of a file."""
+    refused = file_refused(data)
+    if refused:
+        return b"refused %d %d\n" % refused
+    words = unpacked(data)
+    _, _, codes, schedules = arrays(words)
+    return listing(words, [(a, s) for a, s in zip(codes, schedules) if a])
 
 
 # ---- a list as text
@@ -193,6 +266,10 @@ def generate(n, code_places, schedule_places):
 
 def packed(numbers):
     return struct.pack(f"<{len(numbers)}I", *numbers)
+
+
+def unpacked(data):
+    return list(struct.unpack(f"<{len(data) // 4}I", data))
 
 
 def digest(numbers):
@@ -624,6 +701,139 @@ def stored_studio_texts():
     }
 
 
+# ---- files to list
+
+
+def file_pairs(r):
+    """A list of any size, often the least or the largest."""
+    n = r.choice([r.randint(0, 2), size(r), size(r), r.randint(0, MOST_PAIRS), MOST_PAIRS - r.randint(0, 1)])
+    return with_schedules(r, random_codes(r, n))
+
+
+def any_multipliers(r):
+    """Multipliers without end, the last one often among them."""
+    return (r.choice([P - 1, r.randint(1, P - 1), r.randint(1, P - 1)]) for _ in itertools.count())
+
+
+def loose_table(r, pairs, n, resized):
+    """A table of n blocks, some of them resized, with any multipliers that fit."""
+    codes = [a for a, _ in pairs]
+    # one block more after each 100 multipliers that don't keep the bound: with too few blocks none does
+    tries = ((k, block_loads(codes, k, n + i // 100)) for i, k in enumerate(any_multipliers(r)))
+    k, blocks = next((k, b) for k, b in tries if b is not None)
+    sizes = [len(block) ** 2 for block in blocks]
+    for j in r.sample(range(len(blocks)), min(resized, len(blocks))):
+        sizes[j] = max(sizes[j] + r.choice([-1, 1, 2, 3]), len(blocks[j]))
+    multipliers = [next(q for q in any_multipliers(r) if parts(block, q, size)) for block, size in zip(blocks, sizes)]
+    return laid_out(k, blocks, sizes, multipliers, dict(pairs))
+
+
+def good_table(r):
+    """A well-formed table, with the least multipliers or any others."""
+    pairs = file_pairs(r)
+    return r.choice([build(pairs), loose_table(r, pairs, len(pairs), 0)])
+
+
+def resized_table(r):
+    """A table with blocks whose cells don't number the square of their codes."""
+    pairs = file_pairs(r)
+    return loose_table(r, pairs, len(pairs), r.randint(1, 3))
+
+
+def miscounted_table(r):
+    """A table whose codes don't number n: with more blocks there are empty ones, with fewer they are fuller."""
+    pairs = file_pairs(r)
+    f = len(pairs)
+    n = r.choice([f + 1, f + r.randint(2, 9), f * 3 // 2, MOST_PAIRS, f - 1, f - 2, f * 9 // 10])
+    return loose_table(r, pairs, min(max(n, 1), MOST_PAIRS), r.choice([0, 0, 0, 1]))
+
+
+def small_table(r):
+    """A table of few cells with anything in them: mostly 19, often 20 or 21."""
+    n = r.randint(1, 4)
+    c = r.randint(0, min(3 * n - 2, 5))
+    starts = [0] + sorted(r.randint(0, c) for _ in range(n - 1))
+    codes = [r.choice([0, r.randint(1, 9), r.randint(P - 4, P - 1)]) for _ in range(c)]
+    ks = r.choices([1, 2, 3, P - 1], k=n + 1)
+    return [n, c] + ks[:1] + starts + ks[1:] + codes + [a and r.randint(1, 999) for a in codes]
+
+
+def changed(r, words):
+    """A table with a few words changed, in any of its parts as often as in any other."""
+    n, c = words[:2]
+    at = bounds(n, c)
+    # where each part starts and ends, and the last number that is in range there
+    regions = [(0, 1, MOST_PAIRS), (1, 2, max(3 * n - 2, 0)), (2, 3, P - 1)]
+    regions = [region for region in regions + list(zip(at, at[1:], [c, P - 1, P - 1, 999])) if region[0] < region[1]]
+    words = list(words)
+    for _ in range(r.choice([1, 1, 1, 2, 4])):
+        start, end, last = r.choice(regions)
+        i = r.choice([start, end - 1, r.randrange(start, end), r.randrange(start, end)])
+        if r.random() < 0.2:
+            j = r.choice([r.randrange(start, end), r.randrange(len(words))])
+            words[i], words[j] = words[j], words[i]
+        else:
+            # one less than 0 is the largest number
+            near = (words[i] + r.choice([-1, 1])) % (MOST_NUMBER + 1)
+            words[i] = r.choice([0, near, near, last, last + 1, r.randint(0, last), any_number(r)])
+    return words
+
+
+def moved(r, words):
+    """A table with a pair taken out of its cell, copied to another or exchanged with what is there."""
+    n, c = words[:2]
+    _, _, codes, schedules, total = bounds(n, c)
+    pairs = list(zip(words[codes:schedules], words[schedules:total]))
+    if pairs:
+        i, j = r.choice([i for i, (a, _) in enumerate(pairs) if a]), r.randrange(c)
+        pairs[j], pairs[i] = r.choice([(pairs[j], (0, 0)), (pairs[i], pairs[i]), (pairs[i], pairs[j])])
+    return words[:codes] + [a for a, _ in pairs] + [s for _, s in pairs] + words[total:]
+
+
+def with_rest(r, words, count):
+    """A table and other words after it: any, or such as could be its own."""
+    return words + r.choice([unpacked(r.randbytes(4 * count)), r.choices(words, k=count)])
+
+
+def cut(r, words):
+    return words[: r.choice([r.randint(0, 2), r.randrange(len(words)), len(words) - 1])]
+
+
+def full_file(r, words):
+    """A table and other words after it, up to the most bytes."""
+    return packed(with_rest(r, words, MOST_FILE // 4 - len(words)))
+
+
+# each makes the bytes of a file
+FILES = [
+    lambda r: packed(good_table(r)),
+    lambda r: packed(with_rest(r, good_table(r), r.randint(1, 30))),
+    lambda r: packed(changed(r, good_table(r))),
+    lambda r: packed(changed(r, good_table(r))),
+    lambda r: packed(changed(r, good_table(r))),
+    lambda r: packed(with_rest(r, changed(r, good_table(r)), r.randint(1, 30))),
+    lambda r: packed(moved(r, good_table(r))),
+    lambda r: packed(changed(r, moved(r, good_table(r)))),
+    lambda r: packed(resized_table(r)),
+    lambda r: packed(miscounted_table(r)),
+    lambda r: packed(small_table(r)),
+    lambda r: packed(cut(r, good_table(r))),
+    lambda r: packed(with_rest(r, good_table(r), r.randint(0, 9)))[: -r.randint(1, 3)],
+    lambda r: full_file(r, r.choice([good_table, small_table])(r)),
+    lambda r: full_file(r, changed(r, good_table(r))),
+    lambda r: full_file(r, good_table(r))[: -r.randint(1, 3)],
+    lambda r: full_file(r, good_table(r)) + r.randbytes(r.choice([1, r.randint(2, 4), r.randint(5, 99999)])),
+    lambda r: r.randbytes(r.choice([r.randint(0, 12), 4 * r.randint(0, 50), r.randint(0, 2 * MOST_FILE)])),
+]
+
+
+def random_files(seed, count):
+    """The empty file and that of P5, then files of all kinds."""
+    r = random.Random(seed)
+    files = [b"", packed(build(P5))] + [r.choice(FILES)(r) for _ in range(count - 2)]
+    return files[:count]
+
+
 # ---- the stored files, and fresh cases
 
 
@@ -634,10 +844,15 @@ def store(program, given, answered):
     (folder / "stdout").write_bytes(answered)
 
 
+def tally(answers):
+    """How many answers there are of each kind and number."""
+    counts = collections.Counter(answers)
+    return ", ".join(f"{kind} {number}: {counts[kind, number]}" for kind, number in sorted(counts))
+
+
 def counted(cases):
     """How many cases of each kind answer each number."""
-    counts = collections.Counter((type(case).__name__.lower(), case.number()) for case in cases)
-    return ", ".join(f"{kind} {number}: {counts[kind, number]}" for kind, number in sorted(counts))
+    return tally((type(case).__name__.lower(), case.number()) for case in cases)
 
 
 def make():
@@ -663,11 +878,51 @@ def fresh_tables(texts, program):
     return all(printed(program, text) == table_file(text) for text in texts), f"{len(texts)} texts"
 
 
+def printed_of_file(program, data):
+    """What a program prints of a file that is its standard input."""
+    with tempfile.TemporaryFile() as given:
+        given.write(data)
+        given.seek(0)
+        return subprocess.run([program], stdin=given, stdout=subprocess.PIPE, check=True).stdout
+
+
+def printed_of_pieces(program, data, r):
+    """What a program prints of bytes that come in pieces, so that it reads fewer at a time than it asks for."""
+    # into a file, since a program that prints while it is written to could fill a pipe
+    with tempfile.TemporaryFile() as answered:
+        with subprocess.Popen([program], stdin=subprocess.PIPE, stdout=answered, bufsize=0) as process:
+            try:
+                while data:
+                    length = r.randint(1, min(r.choice([7, 500, 20000]), len(data)))
+                    process.stdin.write(data[:length])
+                    data = data[length:]
+                    time.sleep(r.choice([0, 0, 0.001]))
+            except BrokenPipeError:
+                # it reads no further than the first byte too many
+                pass
+        if process.returncode:
+            raise subprocess.CalledProcessError(process.returncode, program)
+        answered.seek(0)
+        return answered.read()
+
+
+def fresh_files(seed, count, program):
+    r = random.Random(seed)
+    files = random_files(seed, count)
+
+    def answer(data):
+        return printed_of_pieces(program, data, r) if r.randrange(4) == 0 else printed_of_file(program, data)
+
+    what = tally(("listed", (file_refused(data) or (0, 0))[0]) for data in files)
+    return all(answer(data) == file_listing(data) for data in files), what
+
+
 FRESH = {
     "fresh": lambda seed, count, program: fresh([Built(pairs) for pairs in random_lists(seed, count)], program),
     "fresh-texts": lambda seed, count, program: fresh(random_texts(seed, count), program),
     "fresh-loads": lambda seed, count, program: fresh(random_loads(seed, count), program),
     "fresh-tables": lambda seed, count, program: fresh_tables(random_studio_texts(seed, count), program),
+    "fresh-files": fresh_files,
 }
 
 
