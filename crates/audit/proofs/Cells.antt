@@ -12,7 +12,7 @@ use Rattle.table.specs.Answers.{firstOf}
 use Rattle.table.proofs.First.{first-is, first-ext}
 use Rattle.audit.specs.Check.{codesIn}
 use Rattle.audit.specs.code.Blocks.{misplacedFrom, BelowPrime, Tested}
-use Rattle.audit.specs.declared.blocks.TableHash.{TableHash}
+use Rattle.hash.specs.declared.Hasher.{Hasher}
 use Rattle.audit.specs.declared.blocks.BlockHash.{BlockHash}
 use Rattle.audit.specs.declared.blocks.BlockTest.{BlockTest}
 use Rattle.audit.proofs.Counting.{codes-take, codes-le}
@@ -26,7 +26,7 @@ module _ (part : List ℕ) (a e : ℕ) (l : a ≤ e) (m : e ≤ length part) whe
   cells-at : (t : ℕ) → t < e - a → getD (take (e - a) (drop a part)) t 0 ≡ getD part (a + t) 0
   cells-at t lt = getD-take (e - a) (drop a part) t 0 lt ∙ getD-drop a part t 0
 
-  pub cells-codes : (h : TableHash) → BelowPrime h part → BelowPrime h (take (e - a) (drop a part))
+  pub cells-codes : (h : Hasher) → BelowPrime h part → BelowPrime h (take (e - a) (drop a part))
   cells-codes h c =
       record {
         each = λ t lt.
@@ -35,12 +35,12 @@ module _ (part : List ℕ) (a e : ℕ) (l : a ≤ e) (m : e ≤ length part) whe
       }
 
   cells-test :
-      (h : TableHash) (b : BlockHash) (t : ℕ) → t < e - a
+      (h : Hasher) (b : BlockHash) (t : ℕ) → t < e - a
       → misplacedFrom h b a (take (e - a) (drop a part)) t ≡ misplacedFrom h b 0 part (a + t)
   unfolding misplacedFrom
   cells-test h b t lt = rw (cells-at t lt, zero-add (a + t)) refl
 
-pub front-codes : (h : TableHash) (part : List ℕ) (e : ℕ) → e ≤ length part → BelowPrime h part → BelowPrime h (take e part)
+pub front-codes : (h : Hasher) (part : List ℕ) (e : ℕ) → e ≤ length part → BelowPrime h part → BelowPrime h (take e part)
 front-codes h part e m c =
     record {
       each = λ t lt.
@@ -48,12 +48,12 @@ front-codes h part e m c =
           subst (λ (x : ℕ). x < h .prime) (sym (getD-take e part t 0 lt)) (c .each t (omega arith));
     }
 
-pub record TestedFrom (h : TableHash) (b : BlockHash) (part : List ℕ) (first codes e : ℕ) : Type 0 where
+pub record TestedFrom (h : Hasher) (b : BlockHash) (part : List ℕ) (first codes e : ℕ) : Type 0 where
   pub within : e ≤ length part
   pub found : FirstFrom e (length part) (misplacedFrom h b 0 part) first
   pub counted : codes + codesIn (take e part) ≡ codesIn part
 
-module _ (h : TableHash) (b : BlockHash) (part : List ℕ) where
+module _ (h : Hasher) (b : BlockHash) (part : List ℕ) where
   pub tested-none : TestedFrom h b part (length part) 0 (length part)
   tested-none = record { within = omega arith; found = from-none _ _; counted = omega (arith, ap codesIn (take-length part)) }
 
@@ -99,5 +99,5 @@ module _ (h : TableHash) (b : BlockHash) (part : List ℕ) where
         codes = omega (arith, all .counted);
       }
 
-pub tested-within : {h : TableHash} {b : BlockHash} {from : ℕ} {part : List ℕ} {r : BlockTest} → Tested h b from part r → r .first ≤ length part
+pub tested-within : {h : Hasher} {b : BlockHash} {from : ℕ} {part : List ℕ} {r : BlockTest} → Tested h b from part r → r .first ≤ length part
 tested-within {h} {b} {from} {part} test = omega (arith, test .first, first-is (length part) (misplacedFrom h b from part) .within)

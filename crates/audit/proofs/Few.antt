@@ -10,9 +10,10 @@ use lib.ListN.{length, getD}
 use Rattle.hash.specs.Hash.{hashOf}
 use Rattle.hash.proofs.Counting.{hash-lt}
 use Rattle.table.specs.Answers.{firstOf}
+use Rattle.hash.specs.code.Contract.{Hashing}
 use Rattle.audit.specs.Check.{codesIn}
-use Rattle.audit.specs.code.Blocks.{elsewhere, notOwn, misplacedFrom, orZero, TableHashed, BelowPrime}
-use Rattle.audit.specs.declared.blocks.TableHash.{TableHash}
+use Rattle.audit.specs.code.Blocks.{elsewhere, notOwn, misplacedFrom, orZero, BelowPrime}
+use Rattle.hash.specs.declared.Hasher.{Hasher}
 use Rattle.audit.specs.declared.blocks.BlockHash.{BlockHash}
 
 pub few-read : (part word : List ℕ) → word ≡ 0 ∷ [] → 0 < length (orZero part word)
@@ -23,7 +24,7 @@ pub few-is : (part word : List ℕ) → word ≡ 0 ∷ [] → getD (orZero part 
 few-is [] word e = ap (λ (l : List ℕ). getD l 0 0) e
 few-is (a ∷ part) word e = rw (ne-eqb (length (a ∷ part)) 0 (omega arith)) refl
 
-pub few-below : (h : TableHash) (part : List ℕ) → TableHashed h → BelowPrime h part → getD part 0 0 < h .prime
+pub few-below : (h : Hasher) (part : List ℕ) → Hashing h → BelowPrime h part → getD part 0 0 < h .prime
 few-below h [] t c = omega (arith, t .below)
 few-below h (a ∷ part) t c = c .each 0 (omega arith)
 
@@ -31,7 +32,7 @@ and-true : (b : Bool) → b && true ≡ b
 and-true true = refl
 and-true false = refl
 
-only-place : (h : TableHash) (b : BlockHash) (a : ℕ) → b .cells ≡ 1 → notOwn h b 0 a ≡ elsewhere h (b .number) a
+only-place : (h : Hasher) (b : BlockHash) (a : ℕ) → b .cells ≡ 1 → notOwn h b 0 a ≡ elsewhere h (b .number) a
 unfolding notOwn elsewhere
 only-place h b a e =
     let zero : hashOf (h .prime) (b .multiplier) (b .cells) a ≡ 0
@@ -39,7 +40,7 @@ only-place h b a e =
     rw (eq-eqb (hashOf (h .prime) (b .multiplier) (b .cells) a) 0 zero, and-true) refl
 
 pub few-first :
-    (h : TableHash) (b : BlockHash) (part : List ℕ) → length part ≡ b .cells → b .cells < 2
+    (h : Hasher) (b : BlockHash) (part : List ℕ) → length part ≡ b .cells → b .cells < 2
     → cond (not (eqb (getD part 0 0) 0) && elsewhere h (b .number) (getD part 0 0)) 0 (length part)
     ≡ firstOf (length part) (misplacedFrom h b 0 part)
 unfolding firstOf misplacedFrom

@@ -19,7 +19,7 @@ use Rattle.audit.specs.Check.{misplaced, blockCodes}
 use Rattle.audit.specs.code.Starts.{Starts}
 use Rattle.audit.proofs.Partition.{block-lt, edge-start, apart, end-within, cell-lt}
 use Rattle.audit.specs.code.Blocks.{notOwn, misplacedFrom, BelowPrime, Tested, HashOf, BlockHashOf, PartTested}
-use Rattle.audit.specs.declared.blocks.TableHash.{TableHash}
+use Rattle.hash.specs.declared.Hasher.{Hasher}
 use Rattle.audit.specs.declared.blocks.BlockHash.{BlockHash}
 use Rattle.audit.specs.declared.blocks.BlockTest.{BlockTest}
 
@@ -69,7 +69,7 @@ module _ (words : List ℕ) (s : Starts words) (whole : total words ≤ length w
   pub part-at : (t : ℕ) → t < blockEnd words j - blockStart words j → getD (blockCodes words j) t 0 ≡ cellCode words (blockStart words j + t)
   part-at t l = rw (getD-take, getD-drop) (ap (λ (i : ℕ). getD words i 0) (omega arith))
 
-  pub part-codes : (h : TableHash) → ((i : ℕ) → i < cellCount words → cellCode words i < h .prime) → BelowPrime h (blockCodes words j)
+  pub part-codes : (h : Hasher) → ((i : ℕ) → i < cellCount words → cellCode words i < h .prime) → BelowPrime h (blockCodes words j)
   part-codes h each =
       record {
         each = λ t l.
@@ -78,7 +78,7 @@ module _ (words : List ℕ) (s : Starts words) (whole : total words ≤ length w
       }
 
   -- h and b are the hashes of the table and of block j
-  module _ (h : TableHash) (b : BlockHash) (ht : HashOf words h) (hb : BlockHashOf words j b) where
+  module _ (h : Hasher) (b : BlockHash) (ht : HashOf words h) (hb : BlockHashOf words j b) where
     part-misplaced :
         (t : ℕ) → t < blockEnd words j - blockStart words j
         → misplacedFrom h b 0 (blockCodes words j) t ≡ misplaced (h .prime) words (blockStart words j + t)

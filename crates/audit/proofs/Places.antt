@@ -14,7 +14,7 @@ use lib.Seq.{take-suc-set, take-set-le, take-length, take-take, take-at, length-
 use Rattle.table.specs.Answers.{firstOf}
 use Rattle.audit.specs.Check.{codesIn}
 use Rattle.audit.specs.code.Blocks.{notOwn, misplacedFrom, codePlaces, PlacesListed}
-use Rattle.audit.specs.declared.blocks.TableHash.{TableHash}
+use Rattle.hash.specs.declared.Hasher.{Hasher}
 use Rattle.audit.specs.declared.blocks.BlockHash.{BlockHash}
 use Rattle.audit.proofs.Counting.{codes-from, codes-end, codes-le}
 use Rattle.audit.proofs.FirstFrom.{FirstFrom, from-none, from-pass, from-next, from-all}
@@ -128,7 +128,7 @@ none-below part (suc x) z u l =
       | no ne ↦ absurd (omega (arith, ap length (places-code part x ne), length-append (codePlaces part x) (x ∷ [])))
     ]
 
-module _ (h : TableHash) (b : BlockHash) (from : ℕ) (part list : List ℕ) where
+module _ (h : Hasher) (b : BlockHash) (from : ℕ) (part list : List ℕ) where
   -- before the turn at i: the listed places from i on are tried; those before them are the places below x
   pub record TriedFrom (first i : ℕ) : Type 0 where
     pub x : ℕ

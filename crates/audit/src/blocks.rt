@@ -1,25 +1,17 @@
 // One block of a table by itself: its codes are handed on as the part of the words that belongs to it, and are counted and placed there.
 // Branch-free but for the length: whether a cell holds a code, and whether it is its own, is selected and not jumped on.
-ghost use Prim.Native.Nat.{_+_, _*_, _<_, _≤_};
+ghost use Prim.Native.Nat.{_+_, _<_, _≤_};
 ghost use mathlib.Core.Bool.{cond};
 ghost use mathlib.Core.List.{[], _∷_};
 ghost use mathlib.Core.Path.{_≡_};
-ghost use lib.Dec.{eqb};
 ghost use lib.ListN.{length};
-ghost use Rattle.hash.specs.Hash.{hashOf};
+ghost use Rattle.hash.specs.code.Contract.{Hashing};
 ghost use Rattle.table.specs.Answers.{firstOf};
 ghost use Rattle.table.specs.code.Sized.{Within};
-ghost use Rattle.audit.specs.code.Blocks.{elsewhere, notOwn, misplacedFrom, codePlaces, orZero, TableHashed, BlockHashed, BelowPrime, PlacesListed, Tested};
+ghost use Rattle.audit.specs.code.Blocks.{elsewhere, notOwn, misplacedFrom, codePlaces, orZero, BlockHashed, BelowPrime, PlacesListed, Tested};
+use hash::Hasher;
 use table::numbers::occupied;
 use table::numbers::wide;
-
-// The hash of a table's codes into its blocks, with the precomputed reciprocal of their number.
-pub struct TableHash {
-    pub prime: u32,
-    pub multiplier: u32,
-    pub blocks: u32,
-    pub reciprocal: u64,
-}
 
 // The hash of a block's codes into its cells, and the block's number.
 pub struct BlockHash {
@@ -62,16 +54,16 @@ fn or_zero<'a>(part: &'a [u32], zero: &'a [u32]) -> &'a [u32]
 }
 
 // Code a belongs to another block than j.
-fn elsewhere(h: TableHash, j: u32, a: u32) -> bool
-    requires { ⌜ TableHashed h × (a < h .prime) ⌝ }
+fn elsewhere(h: Hasher, j: u32, a: u32) -> bool
+    requires { ⌜ Hashing h × (a < h .prime) ⌝ }
     ensures { λ r. ⌜ r ≡ elsewhere h j a ⌝ }
 {
-    hash::hash_below_by(h.prime, h.multiplier, h.blocks, h.reciprocal, a) != j
+    hash::hash_below_by(h, a) != j
 }
 
 // Place t of the block is not code a's own.
-fn not_own(h: TableHash, b: BlockHash, t: usize, a: u32) -> bool
-    requires { ⌜ TableHashed h × (BlockHashed h b × (a < h .prime)) ⌝ }
+fn not_own(h: Hasher, b: BlockHash, t: usize, a: u32) -> bool
+    requires { ⌜ Hashing h × (BlockHashed h b × (a < h .prime)) ⌝ }
     ensures { λ r. ⌜ r ≡ notOwn h b t a ⌝ }
 {
     let place = wide(hash::hash_below(h.prime, b.multiplier, b.cells, a));
@@ -79,8 +71,8 @@ fn not_own(h: TableHash, b: BlockHash, t: usize, a: u32) -> bool
 }
 
 // A block of at most one cell, where the place of every code is 0.
-fn test_few<'a>(h: TableHash, b: BlockHash, part: &'a [u32], zero: &'a [u32]) -> BlockTest
-    requires { ⌜ TableHashed h × (BelowPrime h (now part) × ((length (now part) ≡ b .cells) × (b .cells < 2))) ⌝ }
+fn test_few<'a>(h: Hasher, b: BlockHash, part: &'a [u32], zero: &'a [u32]) -> BlockTest
+    requires { ⌜ Hashing h × (BelowPrime h (now part) × ((length (now part) ≡ b .cells) × (b .cells < 2))) ⌝ }
     requires { ⌜ now zero ≡ 0 ∷ [] ⌝ }
     ensures { λ r. ⌜ Tested h b 0 (now (part .entry)) r ⌝ }
 {
@@ -110,8 +102,8 @@ fn list_codes(part: &[u32], list: &mut [u16]) -> usize
 }
 
 // The first of the listed places that is not its code's own. The part begins at cell `from` of the block.
-fn first_listed(h: TableHash, b: BlockHash, from: usize, part: &[u32], list: &[u16]) -> usize
-    requires { ⌜ TableHashed h × (BlockHashed h b × BelowPrime h (now part)) ⌝ }
+fn first_listed(h: Hasher, b: BlockHash, from: usize, part: &[u32], list: &[u16]) -> usize
+    requires { ⌜ Hashing h × (BlockHashed h b × BelowPrime h (now part)) ⌝ }
     requires { ⌜ (now list ≡ codePlaces (now part) (length (now part))) × (from + length (now part) < 4294967296) ⌝ }
     ensures { λ r. ⌜ r ≡ firstOf (length (now (part .entry))) (misplacedFrom h b from (now (part .entry))) ⌝ }
 {
@@ -127,8 +119,8 @@ fn first_listed(h: TableHash, b: BlockHash, from: usize, part: &[u32], list: &[u
 }
 
 // Counts and places the codes of some cells of a block. Only the codes are placed: most cells of a block are empty.
-fn test_cells(h: TableHash, b: BlockHash, from: usize, part: &[u32], list: &mut [u16]) -> BlockTest
-    requires { ⌜ TableHashed h × (BlockHashed h b × BelowPrime h (now part)) ⌝ }
+fn test_cells(h: Hasher, b: BlockHash, from: usize, part: &[u32], list: &mut [u16]) -> BlockTest
+    requires { ⌜ Hashing h × (BlockHashed h b × BelowPrime h (now part)) ⌝ }
     requires { ⌜ (length (now part) ≤ length (now list)) × (from + length (now part) < 4294967296) ⌝ }
     requires { ⌜ length (now list) < 65536 ⌝ }
     ensures { λ r. ⌜ Tested h b from (now (part .entry)) r × (length (now (list .exit)) ≡ length (now (list .entry))) ⌝ }
@@ -139,8 +131,8 @@ fn test_cells(h: TableHash, b: BlockHash, from: usize, part: &[u32], list: &mut 
 }
 
 // A block of any cells, from its last cells to its first, as many at a time as can be listed.
-fn test_many(h: TableHash, b: BlockHash, part: &[u32], list: &mut [u16]) -> BlockTest
-    requires { ⌜ TableHashed h × (BlockHashed h b × BelowPrime h (now part)) ⌝ }
+fn test_many(h: Hasher, b: BlockHash, part: &[u32], list: &mut [u16]) -> BlockTest
+    requires { ⌜ Hashing h × (BlockHashed h b × BelowPrime h (now part)) ⌝ }
     requires { ⌜ (length (now part) < 4294967296) × ((0 < length (now list)) × (length (now list) < 65536)) ⌝ }
     ensures { λ r. ⌜ Tested h b 0 (now (part .entry)) r × (length (now (list .exit)) ≡ length (now (list .entry))) ⌝ }
 {
@@ -163,13 +155,13 @@ fn test_many(h: TableHash, b: BlockHash, part: &[u32], list: &mut [u16]) -> Bloc
 
 // Counts and places the codes of a block. The list is a scratch buffer; `zero` is one word, 0.
 pub(crate) fn test_block<'a>(
-    h: TableHash,
+    h: Hasher,
     b: BlockHash,
     part: &'a [u32],
     list: &mut [u16],
     zero: &'a [u32],
 ) -> BlockTest
-    requires { ⌜ TableHashed h × ((b .multiplier < h .prime) × (BelowPrime h (now part) × (length (now part) ≡ b .cells))) ⌝ }
+    requires { ⌜ Hashing h × ((b .multiplier < h .prime) × (BelowPrime h (now part) × (length (now part) ≡ b .cells))) ⌝ }
     requires { ⌜ (length (now part) < 4294967296) × ((0 < length (now list)) × (length (now list) < 65536)) ⌝ }
     requires { ⌜ now zero ≡ 0 ∷ [] ⌝ }
     ensures { λ r. ⌜ Tested h b 0 (now (part .entry)) r × (length (now (list .exit)) ≡ length (now (list .entry))) ⌝ }

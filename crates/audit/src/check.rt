@@ -12,11 +12,11 @@ ghost use Rattle.audit.specs.code.Blocks.{Ranged, HashOf, ExtentOf, Part
 ghost use Rattle.table.specs.Limits.{mostPairs};
 use crate::blocks::BlockHash;
 use crate::blocks::BlockTest;
-use crate::blocks::TableHash;
 use crate::blocks::select;
 use crate::blocks::test_block;
 use crate::ranges::Range;
 use crate::ranges::first_bad;
+use hash::Hasher;
 use table::limits::MOST_PAIRS;
 use table::numbers::wide;
 use table::words::bad_multiplier;
@@ -70,27 +70,27 @@ pub struct Survey {
 }
 
 // The hash of a table's codes into its blocks.
-fn table_hash(p: u32, words: &[u32]) -> TableHash
+fn table_hash(p: u32, words: &[u32]) -> Hasher
     requires { ⌜ Sized p 65536 (now words) × (0 < codeCount (now words)) ⌝ }
     ensures { λ r. ⌜ HashOf (now (words .entry)) r × (r .prime ≡ p) ⌝ }
 {
-    TableHash {
+    Hasher {
         prime: p,
         multiplier: words[2],
-        blocks: words[0],
+        places: words[0],
         reciprocal: hash::reciprocal(p, words[0]),
     }
 }
 
 // Hands the codes of a block on to its own test, as the part of the words between its start and its end. Block 0 starts at 0: that word is the 0
 // read where a block has no cells.
-fn test_part(h: TableHash, words: &[u32], x: Extent, list: &mut [u16]) -> BlockTest
+fn test_part(h: Hasher, words: &[u32], x: Extent, list: &mut [u16]) -> BlockTest
     requires { ⌜ Ranged (h .prime) 65536 (now words) × (HashOf (now words) h × ExtentOf (now words) x) ⌝ }
     requires { ⌜ (0 < length (now list)) × (length (now list) < 65536) ⌝ }
     ensures { λ r. ⌜ PartTested (h .prime) (now (words .entry)) (x .number) r × (length (now (list .exit)) ≡ length (now (list .entry))) ⌝ }
 {
     let number = x.number;
-    let before = 3 + 2 * wide(h.blocks);
+    let before = 3 + 2 * wide(h.places);
     let a = before + x.start;
     let e = before + x.end;
     let b = BlockHash {
@@ -103,7 +103,7 @@ fn test_part(h: TableHash, words: &[u32], x: Extent, list: &mut [u16]) -> BlockT
 
 // One pass over the blocks, from the last to the first: where a block ends is where the one seen before it starts, and what is found last comes
 // first in the table.
-fn survey_blocks(h: TableHash, words: &[u32]) -> Survey
+fn survey_blocks(h: Hasher, words: &[u32]) -> Survey
     requires { ⌜ Ranged (h .prime) 65536 (now words) × HashOf (now words) h ⌝ }
     ensures { λ r. ⌜ Surveyed (h .prime) (now (words .entry)) r ⌝ }
 {

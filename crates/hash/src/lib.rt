@@ -1,7 +1,15 @@
 // The one hash function. Codes, multipliers and the prime are words of 32 bits; their products take 64.
 ghost use Prim.Native.Nat.{_*_, _<_, _≤_};
 ghost use mathlib.Core.Path.{_≡_};
-ghost use Rattle.hash.specs.code.Contract.{Hashed, Remainder, Ready, reciprocalOf};
+ghost use Rattle.hash.specs.code.Contract.{Hashed, Remainder, Ready, Hashing, reciprocalOf};
+
+// The hash by one multiplier among the same places, for many codes: with the precomputed reciprocal of the number of places.
+pub struct Hasher {
+    pub prime: u32,
+    pub multiplier: u32,
+    pub places: u32,
+    pub reciprocal: u64,
+}
 
 // x mod 65,537, without a division: 65,536 is one less than it, so the upper half of x counts negative.
 fn by_halves(x: u64) -> u32
@@ -102,12 +110,16 @@ pub fn hash_below(p: u32, k: u32, w: u32, a: u32) -> u32
     residue_below(p, k, a) % w
 }
 
-// The hash of numbers below p, for many codes among the same places.
-pub fn hash_below_by(p: u32, k: u32, w: u32, reciprocal: u64, a: u32) -> u32
-    requires { ⌜ k < p ⌝ }
-    requires { ⌜ a < p ⌝ }
-    requires { ⌜ Ready p w reciprocal ⌝ }
-    ensures { λ r. ⌜ Hashed p k w a r ⌝ }
+// The hash of a code below p, for many codes among the same places.
+pub fn hash_below_by(h: Hasher, a: u32) -> u32
+    requires { ⌜ Hashing h ⌝ }
+    requires { ⌜ a < h .prime ⌝ }
+    ensures { λ r. ⌜ Hashed (h .prime) (h .multiplier) (h .places) a r ⌝ }
 {
-    remainder_by(p, w, reciprocal, residue_below(p, k, a))
+    remainder_by(
+        h.prime,
+        h.places,
+        h.reciprocal,
+        residue_below(h.prime, h.multiplier, a),
+    )
 }

@@ -1,5 +1,6 @@
--- What several proofs cite: how a definition's tests are decided, what sizes that pass them tell, the first index of which a test holds,
+-- What several proofs cite: places set to one value, how a definition's tests are decided, what sizes that pass them tell, the first index of which a test holds,
 -- refusals one below the other, the steps of a lookup.
+pub mod Fills
 pub mod Laws
 pub mod First
 pub mod Some

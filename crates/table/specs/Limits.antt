@@ -8,3 +8,7 @@ mostPairs = 2048
 -- the most pairs that local arrays have places for
 abbrev pub room : ℕ
 room = 2048
+
+-- the places of the local arrays of few pairs: of a short list, or of a block
+abbrev pub few : ℕ
+few = 128

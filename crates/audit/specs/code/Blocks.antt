@@ -6,29 +6,29 @@ use mathlib.Core.Path.{_≡_}
 use lib.Dec.{eqb}
 use lib.ListN.{length, getD, take}
 use Rattle.hash.specs.Hash.{hashOf}
-use Rattle.hash.specs.code.Contract.{Ready}
+use Rattle.hash.specs.code.Contract.{Hashing}
+use Rattle.hash.specs.declared.Hasher.{Hasher}
 use Rattle.table.specs.Answers.{firstOf}
 use Rattle.table.specs.Words.{codeCount, cellCount, multiplier, blockStart, blockEnd, blockMultiplier, cellCode}
 use Rattle.table.specs.code.Sized.{Sized}
 use Rattle.audit.specs.Check.{misplaced, badSquare, codesIn, blockCodes, allCodes}
 use Rattle.audit.specs.code.Starts.{Starts}
-use Rattle.audit.specs.declared.blocks.TableHash.{TableHash}
 use Rattle.audit.specs.declared.blocks.BlockHash.{BlockHash}
 use Rattle.audit.specs.declared.blocks.BlockTest.{BlockTest}
 use Rattle.audit.specs.declared.check.Extent.{Extent}
 use Rattle.audit.specs.declared.check.Survey.{Survey}
 
 -- code a belongs to another block than j
-unfoldable pub elsewhere : TableHash → ℕ → ℕ → Bool
-elsewhere h j a = not (eqb (hashOf (h .prime) (h .multiplier) (h .blocks) a) j)
+unfoldable pub elsewhere : Hasher → ℕ → ℕ → Bool
+elsewhere h j a = not (eqb (hashOf (h .prime) (h .multiplier) (h .places) a) j)
 
 -- place t of a block is not code a's own: the code belongs to another block, or has another place there
-unfoldable pub notOwn : TableHash → BlockHash → ℕ → ℕ → Bool
+unfoldable pub notOwn : Hasher → BlockHash → ℕ → ℕ → Bool
 notOwn h b t a =
-    not (eqb (hashOf (h .prime) (h .multiplier) (h .blocks) a) (b .number) && eqb (hashOf (h .prime) (b .multiplier) (b .cells) a) t)
+    not (eqb (hashOf (h .prime) (h .multiplier) (h .places) a) (b .number) && eqb (hashOf (h .prime) (b .multiplier) (b .cells) a) t)
 
 -- cell t of a part that begins at cell `from` of the block holds a code, and is not its own
-unfoldable pub misplacedFrom : TableHash → BlockHash → ℕ → List ℕ → ℕ → Bool
+unfoldable pub misplacedFrom : Hasher → BlockHash → ℕ → List ℕ → ℕ → Bool
 unfolding notOwn
 misplacedFrom h b from part t = not (eqb (getD part t 0) 0) && notOwn h b (from + t) (getD part t 0)
 
@@ -40,18 +40,13 @@ codePlaces part (suc t) = codePlaces part t ++ cond (eqb (getD part t 0) 0) [] (
 abbrev pub orZero : List ℕ → List ℕ → List ℕ
 orZero part zeros = cond (eqb (length part) 0) zeros part
 
--- the table's hash is ready for numbers below the prime
-pub record TableHashed (h : TableHash) : Type 0 where
-  pub ready : Ready (h .prime) (h .blocks) (h .reciprocal)
-  pub below : h .multiplier < h .prime
-
--- and a block's, for a block with cells
-pub record BlockHashed (h : TableHash) (b : BlockHash) : Type 0 where
+-- a block's hash is ready for numbers below the prime, for a block with cells
+pub record BlockHashed (h : Hasher) (b : BlockHash) : Type 0 where
   pub below : b .multiplier < h .prime
   pub positive : 0 < b .cells
 
 -- every cell holds a number below the prime
-pub record BelowPrime (h : TableHash) (part : List ℕ) : Type 0 where
+pub record BelowPrime (h : Hasher) (part : List ℕ) : Type 0 where
   pub each : (t : ℕ) → t < length part → getD part t 0 < h .prime
 
 -- all places that hold a code are listed
@@ -62,7 +57,7 @@ pub record PlacesListed (part old : List ℕ) (r : ℕ) (new : List ℕ) : Type 
   pub places : take r new ≡ codePlaces part (length part)
 
 -- what the test of some cells of a block finds, from its cell `from` on
-pub record Tested (h : TableHash) (b : BlockHash) (from : ℕ) (part : List ℕ) (r : BlockTest) : Type 0 where
+pub record Tested (h : Hasher) (b : BlockHash) (from : ℕ) (part : List ℕ) (r : BlockTest) : Type 0 where
   pub first : r .first ≡ firstOf (length part) (misplacedFrom h b from part)
   pub codes : r .codes ≡ codesIn part
 
@@ -74,10 +69,10 @@ pub record Ranged (p limit : ℕ) (words : List ℕ) : Type 0 where
   pub codes : (i : ℕ) → i < cellCount words → cellCode words i < p
 
 -- h is the hash of a table's codes into its blocks, of which there are some
-pub record HashOf (words : List ℕ) (h : TableHash) : Type 0 where
-  pub hashed : TableHashed h
+pub record HashOf (words : List ℕ) (h : Hasher) : Type 0 where
+  pub hashed : Hashing h
   pub multiplier-is : h .multiplier ≡ multiplier words
-  pub blocks-is : h .blocks ≡ codeCount words
+  pub blocks-is : h .places ≡ codeCount words
 
 -- b is the hash of block j's codes into its cells
 pub record BlockHashOf (words : List ℕ) (j : ℕ) (b : BlockHash) : Type 0 where

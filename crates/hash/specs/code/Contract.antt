@@ -4,6 +4,7 @@ use mathlib.Core.Bool.{cond}
 use mathlib.Core.Path.{_≡_}
 use lib.Dec.{ltb}
 use Rattle.hash.specs.Hash.{hashOf}
+use Rattle.hash.specs.declared.Hasher.{Hasher}
 
 -- r is the remainder of x by w
 pub record Remainder (x w r : ℕ) : Type 0 where
@@ -30,3 +31,8 @@ pub record Reciprocal (p w r : ℕ) : Type 0 where
 pub record Ready (p w r : ℕ) : Type 0 where
   pub positive : 0 < w
   pub exact : 0 < r → Reciprocal p w r
+
+-- what a hash of codes below the prime relies on
+pub record Hashing (h : Hasher) : Type 0 where
+  pub below : h .multiplier < h .prime
+  pub ready : Ready (h .prime) (h .places) (h .reciprocal)

@@ -5,7 +5,7 @@ use mathlib.Core.Path.{_≡_, refl}
 use borrow.Author.Needs.{needs}
 use lib.Dec.{eqb}
 use Rattle.hash.specs.Hash.{hashOf}
-use Rattle.audit.specs.declared.blocks.TableHash.{TableHash}
+use Rattle.hash.specs.declared.Hasher.{Hasher}
 use Rattle.audit.specs.declared.blocks.BlockHash.{BlockHash}
 use Rattle.audit.specs.code.Blocks.{elsewhere, notOwn}
 use Rattle.audit.proofs.blocks.not_own.Statement.{statement}
@@ -16,11 +16,11 @@ not-and true b = refl
 not-and false b = refl
 
 own-is :
-    (h : TableHash) (b : BlockHash) (t a : ℕ)
+    (h : Hasher) (b : BlockHash) (t a : ℕ)
     → (elsewhere h (b .number) a || not (eqb (hashOf (h .prime) (b .multiplier) (b .cells) a) t)) ≡ notOwn h b t a
 unfolding elsewhere notOwn
 own-is h b t a =
-    not-and (eqb (hashOf (h .prime) (h .multiplier) (h .blocks) a) (b .number)) (eqb (hashOf (h .prime) (b .multiplier) (b .cells) a) t)
+    not-and (eqb (hashOf (h .prime) (h .multiplier) (h .places) a) (b .number)) (eqb (hashOf (h .prime) (b .multiplier) (b .cells) a) t)
 
 returns : tie.Need-returns
 returns c =

@@ -8,14 +8,14 @@ use borrow.Author.Needs.{needs}
 use lib.Dec.{ltb}
 use lib.ListN.{length}
 use lib.Seq.{length-take-le}
-use Rattle.audit.specs.declared.blocks.TableHash.{TableHash}
+use Rattle.hash.specs.declared.Hasher.{Hasher}
 use Rattle.audit.specs.declared.blocks.BlockHash.{BlockHash}
 use Rattle.audit.proofs.Counting.{codes-le}
 use Rattle.audit.proofs.Cells.{TestedFrom, tested-none, tested-next, tested-count, tested-all, tested-within, cells-length, cells-codes, front-codes}
 use Rattle.audit.proofs.blocks.test_many.Statement.{statement}
 use Rattle.audit.proofs.blocks.test_many.Tie as tie
 
-record RunInvariant (h : TableHash) (b : BlockHash) (part old list : List ℕ) (first codes e : ℕ) : Type 0 where
+record RunInvariant (h : Hasher) (b : BlockHash) (part old list : List ℕ) (first codes e : ℕ) : Type 0 where
   long : length list ≡ length old
   tested : TestedFrom h b part first codes e
 

@@ -30,7 +30,7 @@ module _ (s : tie.Start) where
   few : cellCount words ≤ 3 * 65536
   few = omega (arith, cells-le (s .pre .0 .0 .sized), s .pre .0 .0 .sized .few-codes)
 
-  blocks : s .args .h .blocks ≡ codeCount words
+  blocks : s .args .h .places ≡ codeCount words
   blocks = s .pre .0 .1 .0 .blocks-is
 
   codes : codeCount words ≤ 65536
