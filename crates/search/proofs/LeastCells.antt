@@ -23,28 +23,27 @@ module _ {p : ℕ} {block cells : List ℕ} (u : Unplaced p block cells) where
   pub unplaced-square : length cells ≡ square block
   unplaced-square = ap length (u .zeros) ∙ length-replicate {A = ℕ} (square block) 0
 
-  pub unplaced-zeros : cells ≡ replicate (length cells) 0
-  unplaced-zeros = u .zeros ∙ ap (λ (n : ℕ). replicate n 0) (sym unplaced-square)
-
   pub unplaced-few : length cells ≤ room * room
   unplaced-few =
       omega (arith, unplaced-square, mul-le-mul-left (length block) (u .codes .few), mul-le-mul-right room (u .codes .few))
 
   -- what a trial ends with
-  pub tried-all : {q i : ℕ} {new : List ℕ} → Placing p q (length cells) block i new → i ≤ 0 → Tried p q block cells new true
-  tried-all {q} {i} {new} h end =
-      let (none, filled) = placing-all h end in
-      let e : separates p block q ≡ true =
-      eq-eqb (together p q (square block) block) 0 (ap (λ (w : ℕ). together p q w block) (sym unplaced-square) ∙ none) in
-      record { answer = sym e; cells = rw e (filled ∙ ap (λ (w : ℕ). tabulate (heldAt (hashOf p q w) block block) w) unplaced-square) }
+  module _ {w : ℕ} (is : w ≡ square block) where
+    pub unplaced-zeros : cells ≡ replicate w 0
+    unplaced-zeros = u .zeros ∙ ap (λ (n : ℕ). replicate n 0) (sym is)
 
-  pub tried-stop :
-      {q : ℕ} {new : List ℕ} → (together p q (length cells) block ≡ 0 → ⊥) → new ≡ replicate (length cells) 0
-      → Tried p q block cells new false
-  tried-stop {q} {new} shared zeros =
-      let e : separates p block q ≡ false =
-      ne-eqb (together p q (square block) block) 0 (λ none. shared (ap (λ (w : ℕ). together p q w block) unplaced-square ∙ none)) in
-      record { answer = sym e; cells = rw e (zeros ∙ sym unplaced-zeros) }
+    pub tried-all : {q i : ℕ} {new : List ℕ} → Placing p q w block i new → i ≤ 0 → Tried p q block cells new true
+    tried-all {q} {i} {new} h end =
+        let (none, filled) = placing-all h end in
+        let e : separates p block q ≡ true =
+        eq-eqb (together p q (square block) block) 0 (ap (λ (v : ℕ). together p q v block) (sym is) ∙ none) in
+        record { answer = sym e; cells = rw e (filled ∙ ap (λ (v : ℕ). tabulate (heldAt (hashOf p q v) block block) v) is) }
+
+    pub tried-stop : {q : ℕ} {new : List ℕ} → (together p q w block ≡ 0 → ⊥) → new ≡ replicate w 0 → Tried p q block cells new false
+    tried-stop {q} {new} shared zeros =
+        let e : separates p block q ≡ false =
+        ne-eqb (together p q (square block) block) 0 (λ none. shared (ap (λ (v : ℕ). together p q v block) is ∙ none)) in
+        record { answer = sym e; cells = rw e (zeros ∙ sym unplaced-zeros) }
 
 -- at most 8 codes have at most 64 cells
 pub few-cells : {w : ℕ} (block : List ℕ) → w ≡ square block → length block ≤ 8 → w ≤ 64
@@ -94,7 +93,7 @@ module _ {p q : ℕ} {block old new : List ℕ} {r : Bool} (tried : Tried p q bl
     filled : new ≡ filledBy p q block block
     filled = tried .cells ∙ rw separating refl
 
-    pub cells-sized : length new ≡ square block
+    cells-sized : length new ≡ square block
     cells-sized = ap length filled ∙ tabulate-length (heldAt (hashOf p q (square block)) block block) (square block)
 
     pub cells-filled : (w : ℕ) → w ≡ square block → Placing p q w block 0 new

@@ -1,10 +1,11 @@
 // The least multiplier k of a list: each k is tried by counting the codes of its blocks. Theory: source 000, lemma 2, which is lemma 1 with n places for
 // n codes: some k below p gives fewer than 3n cells, so the search ends. The cells have the parity of n, so that fewer than 3n is at most 3n - 2.
 ghost use mathlib.Core.Path.{_≡_};
-ghost use lib.ListN.{length};
-ghost use Rattle.hash.specs.code.Contract.{Ready};
+ghost use lib.ListN.{length, replicate};
+ghost use Rattle.hash.specs.code.Contract.{Hashing};
 ghost use Rattle.search.specs.code.Searchable.{Searchable};
 ghost use Rattle.search.specs.code.Blocks.{Countable, Counted, Blocked, LeastBlocks};
+use hash::Hasher;
 
 // The cells of a list under one multiplier, where they keep the bound.
 enum Count {
@@ -18,36 +19,39 @@ pub struct Multiplier {
     pub c: u32,
 }
 
-// The cells under k, or an early exit once they are more than 3n - 2. A block that goes from m codes to m + 1 gets 2m + 1 cells more. The
-// codes are taken from the last, as the definitions count them: each one against those after it. `reciprocal` is the precomputed one of n. The block of
-// each code and the load of each block are left for the counting sort.
-fn count_cells(
-    p: u32,
-    k: u32,
-    reciprocal: u64,
-    codes: &[u32],
-    blocks: &mut [u32],
-    counts: &mut [u32],
-) -> Count
-    requires { ⌜ Countable p k (now codes) (now blocks) (now counts) ⌝ }
-    requires { ⌜ Ready p (length (now codes)) reciprocal ⌝ }
-    ensures { λ r. ⌜ Counted p k (now (codes .entry)) r (now (blocks .exit)) (now (counts .exit)) ⌝ }
+// Sets every count to 0.
+fn clear(counts: &mut [u16])
+    ensures { λ _. ⌜ now (counts .exit) ≡ replicate (length (now (counts .entry))) 0 ⌝ }
 {
-    table::fill::fill(counts, 0);
-    let n = codes.len() as u32;
-    let most = 3 * n - 2;
+    let mut i = 0;
+    while i < counts.len() {
+        counts[i] = 0;
+        i += 1;
+    }
+}
+
+// The cells under k, or an early exit once they are more than 3n - 2. A block that goes from m codes to m + 1 gets 2m + 1 cells more. The
+// codes are taken from the last, as the definitions count them: each one against those after it. The block of each code and the load of each block are
+// left for the counting sort.
+fn count_cells(h: Hasher, codes: &[u32], blocks: &mut [u16], counts: &mut [u16]) -> Count
+    requires { ⌜ Hashing h × (h .places ≡ length (now codes)) ⌝ }
+    requires { ⌜ Countable (h .prime) (now codes) (now blocks) (now counts) ⌝ }
+    ensures { λ r. ⌜ Counted (h .prime) (h .multiplier) (now (codes .entry)) r (now (blocks .exit)) (now (counts .exit)) ⌝ }
+{
+    clear(counts);
+    let most = 3 * h.places - 2;
     let mut c: u32 = 0;
     let mut i = codes.len();
     while 0 < i {
         i -= 1;
-        let t = hash::hash_below_by(p, k, n, reciprocal, codes[i]);
-        blocks[i] = t;
-        let m = counts[t as usize];
+        let t = hash::hash_below_by(h, codes[i]);
+        blocks[i] = t as u16;
+        let m = counts[t as usize] as u32;
         c += 2 * m + 1;
         if most < c {
             return Count::TooMany;
         }
-        counts[t as usize] = m + 1;
+        counts[t as usize] = (m + 1) as u16;
     }
     Count::Fits(c)
 }
@@ -57,8 +61,8 @@ fn count_cells(
 pub fn blocks_multiplier(
     p: u32,
     codes: &[u32],
-    blocks: &mut [u32],
-    counts: &mut [u32],
+    blocks: &mut [u16],
+    counts: &mut [u16],
 ) -> Multiplier
     requires { ⌜ Searchable p (now codes) ⌝ }
     requires { ⌜ (length (now blocks) ≡ length (now codes)) × (length (now counts) ≡ length (now codes)) ⌝ }
@@ -68,10 +72,17 @@ pub fn blocks_multiplier(
     if codes.len() == 0 {
         return Multiplier { k: 1, c: 0 };
     }
-    let reciprocal = hash::reciprocal(p, codes.len() as u32);
+    let n = codes.len() as u32;
+    let reciprocal = hash::reciprocal(p, n);
     let mut k = 1;
     while k < p {
-        let count = count_cells(p, k, reciprocal, codes, blocks, counts);
+        let h = Hasher {
+            prime: p,
+            multiplier: k,
+            places: n,
+            reciprocal,
+        };
+        let count = count_cells(h, codes, blocks, counts);
         if let Count::Fits(c) = count {
             return Multiplier { k, c };
         }

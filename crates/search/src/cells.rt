@@ -7,39 +7,39 @@ ghost use mathlib.Core.List.{[], _∷_};
 ghost use lib.Dec.{eqb};
 ghost use lib.ListN.{length, replicate};
 ghost use Rattle.hash.specs.Hash.{hashOf, together, Codes};
-ghost use Rattle.hash.specs.code.Contract.{Ready};
+ghost use Rattle.hash.specs.code.Contract.{Ready, Hashing};
 ghost use Rattle.search.specs.code.Cells.{square, Unplaced, Placing, Tried, Separated};
 ghost use Rattle.search.specs.code.Searchable.{Searchable};
+use hash::Hasher;
 use table::numbers::one;
 
-// Takes the codes from `from` on out of their w cells again, which are then all 0.
-fn undo(p: u32, q: u32, w: u32, reciprocal: u64, block: &[u32], from: usize, cells: &mut [u32])
-    requires { ⌜ Codes p (now block) × ((q < p) × Ready p w reciprocal) ⌝ }
-    requires { ⌜ Placing p q w (now block) from (now cells) ⌝ }
-    ensures { λ _. ⌜ now (cells .exit) ≡ replicate w 0 ⌝ }
+// Takes the codes from `from` on out of their cells again, which are then all 0.
+fn undo(h: Hasher, block: &[u32], from: usize, cells: &mut [u32])
+    requires { ⌜ Hashing h × Codes (h .prime) (now block) ⌝ }
+    requires { ⌜ Placing (h .prime) (h .multiplier) (h .places) (now block) from (now cells) ⌝ }
+    ensures { λ _. ⌜ now (cells .exit) ≡ replicate (h .places) 0 ⌝ }
 {
     let mut i = from;
     while i < block.len() {
-        let t = hash::hash_below_by(p, q, w, reciprocal, block[i]) as usize;
+        let t = hash::hash_below_by(h, block[i]) as usize;
         cells[t] = 0;
         i += 1;
     }
 }
 
-// Places the codes of a block by q in its cells, which are all 0, and tells whether no two fall in one cell. Where two do, the cells
+// Places the codes of a block in its cells, which are all 0, and tells whether no two fall in one cell. Where two do, the cells
 // are all 0 again. The codes are taken from the last, so that a code is tested against those after it, as the definitions do.
-fn place_block(p: u32, q: u32, reciprocal: u64, block: &[u32], cells: &mut [u32]) -> bool
-    requires { ⌜ Unplaced p (now block) (now cells) ⌝ }
-    requires { ⌜ (q < p) × Ready p (length (now cells)) reciprocal ⌝ }
-    ensures { λ r. ⌜ Tried p q (now (block .entry)) (now (cells .entry)) (now (cells .exit)) r ⌝ }
+fn place_block(h: Hasher, block: &[u32], cells: &mut [u32]) -> bool
+    requires { ⌜ Hashing h × (h .places ≡ length (now cells)) ⌝ }
+    requires { ⌜ Unplaced (h .prime) (now block) (now cells) ⌝ }
+    ensures { λ r. ⌜ Tried (h .prime) (h .multiplier) (now (block .entry)) (now (cells .entry)) (now (cells .exit)) r ⌝ }
 {
-    let w = cells.len() as u32;
     let mut i = block.len();
     while 0 < i {
         let a = block[i - 1];
-        let t = hash::hash_below_by(p, q, w, reciprocal, a) as usize;
+        let t = hash::hash_below_by(h, a) as usize;
         if cells[t] != 0 {
-            undo(p, q, w, reciprocal, block, i, cells);
+            undo(h, block, i, cells);
             return false;
         }
         cells[t] = a;
@@ -56,10 +56,17 @@ fn cells_multiplier(p: u32, reciprocal: u64, block: &[u32], cells: &mut [u32]) -
     ensures { λ r. ⌜ Separated p (now (block .entry)) r ⌝ }
     ensures { λ _. ⌜ now (cells .exit) ≡ now (cells .entry) ⌝ }
 {
+    let places = cells.len() as u32;
     let mut q = 1;
     while q < p {
-        if place_block(p, q, reciprocal, block, cells) {
-            undo(p, q, cells.len() as u32, reciprocal, block, 0, cells);
+        let h = Hasher {
+            prime: p,
+            multiplier: q,
+            places,
+            reciprocal,
+        };
+        if place_block(h, block, cells) {
+            undo(h, block, 0, cells);
             return q;
         }
         q += 1;
@@ -67,18 +74,18 @@ fn cells_multiplier(p: u32, reciprocal: u64, block: &[u32], cells: &mut [u32]) -
     q
 }
 
-// Whether q puts the codes of a block in different ones of w cells, branch-free: the cells taken are a bit set.
-fn apart(p: u32, q: u32, w: u32, reciprocal: u64, block: &[u32]) -> bool
-    requires { ⌜ Codes p (now block) × ((q < p) × Ready p w reciprocal) ⌝ }
-    requires { ⌜ w ≤ 64 ⌝ }
-    ensures { λ r. ⌜ r ≡ eqb (together p q w (now (block .entry))) 0 ⌝ }
+// Whether the codes of a block fall in different cells, branch-free: the cells taken are a bit set.
+fn apart(h: Hasher, block: &[u32]) -> bool
+    requires { ⌜ Hashing h × Codes (h .prime) (now block) ⌝ }
+    requires { ⌜ h .places ≤ 64 ⌝ }
+    ensures { λ r. ⌜ r ≡ eqb (together (h .prime) (h .multiplier) (h .places) (now (block .entry))) 0 ⌝ }
 {
     let mut taken: u64 = 0;
     let mut shared: u64 = 0;
     let mut i = block.len();
     while 0 < i {
         i -= 1;
-        let bit = 1u64 << hash::hash_below_by(p, q, w, reciprocal, block[i]);
+        let bit = 1u64 << hash::hash_below_by(h, block[i]);
         shared = shared | (taken & bit);
         taken = taken | bit;
     }
@@ -93,7 +100,15 @@ fn few_multiplier(p: u32, w: u32, reciprocal: u64, block: &[u32]) -> u32
     ensures { λ r. ⌜ Separated p (now (block .entry)) r ⌝ }
 {
     let mut q = 1;
-    while !apart(p, q, w, reciprocal, block) {
+    while !apart(
+        Hasher {
+            prime: p,
+            multiplier: q,
+            places: w,
+            reciprocal,
+        },
+        block,
+    ) {
         q += 1;
     }
     q

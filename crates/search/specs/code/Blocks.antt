@@ -20,8 +20,7 @@ abbrev pub countOf : ℕ → ℕ → List ℕ → Count
 countOf p k codes = cond (keeps p codes k) (Fits (cells p k codes)) TooMany
 
 -- codes to count under one multiplier, with a place for each one's block, and a count for each of as many blocks
-pub record Countable (p k : ℕ) (codes blocks counts : List ℕ) : Type 0 where
-  pub multiplier : k < p
+pub record Countable (p : ℕ) (codes blocks counts : List ℕ) : Type 0 where
   pub below : (i : ℕ) → i < length codes → getD codes i 0 < p
   pub some : 0 < length codes
   pub few : length codes ≤ room

@@ -1,7 +1,7 @@
 -- `search::blocks::blocks_multiplier` meets its contract. The loop's invariant: no multiplier before k keeps the bound. The measure is p
 -- less k.
 use Prim.Native.Nat.{_-_}
-use mathlib.Core.Path.{_≡_}
+use mathlib.Core.Path.{_≡_, refl}
 use native.Mathlib.Omega.{arith}
 use borrow.Author.Needs.{needs}
 use lib.ListN.{length}
@@ -11,11 +11,11 @@ use Rattle.search.proofs.blocks.blocks_multiplier.Statement.{statement}
 use Rattle.search.proofs.blocks.blocks_multiplier.Tie as tie
 
 abbrev Inv-loop : tie.InvT-loop
-Inv-loop p codes blocks₀ counts₀ reciprocal k₀ blocks counts k =
+Inv-loop p codes blocks₀ counts₀ n reciprocal k₀ blocks counts k =
     TryingBlocks p codes k × ((length blocks ≡ length codes) × (length counts ≡ length codes))
 
 abbrev μ-loop : tie.MeasureT-loop
-μ-loop p codes blocks₀ counts₀ reciprocal k₀ blocks counts k = p - k
+μ-loop p codes blocks₀ counts₀ n reciprocal k₀ blocks counts k = p - k
 
 returns : tie.Need-returns Inv-loop μ-loop
 returns c =
@@ -28,7 +28,16 @@ loop-holds c = let start = c .before .before .before .before .before in (blocks-
 count-cells-requires : tie.Need-count-cells-requires Inv-loop μ-loop
 count-cells-requires c κs =
     let h = c .before .before .before in
-    (record { multiplier = omega (arith, h .loop .inv .0 .upto, h .loop .inv .0 .least .below); below = h .before .before .before .before .before .before .pre .0 .valid .below; some = omega arith; few = omega arith; sized = h .loop .inv .1 }, ready (omega arith) (h .before .reciprocal .ensures))
+    let start = h .before .before .before .before .before .before in (
+      (
+        record {
+          below = omega (arith, h .loop .inv .0 .upto, h .loop .inv .0 .least .below);
+          ready = ready (omega arith) (h .before .reciprocal .ensures);
+        },
+        refl,
+      ),
+      record { below = start .pre .0 .valid .below; some = omega arith; few = start .pre .0 .few; sized = h .loop .inv .1 },
+    )
 
 returns-2 : tie.Need-returns-2 Inv-loop μ-loop
 returns-2 c =

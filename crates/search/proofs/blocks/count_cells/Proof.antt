@@ -1,57 +1,65 @@
 -- `search::blocks::count_cells` meets its contract. The loop's invariant is `Counting`: the codes from i on are counted. The measure is i.
-use Prim.Native.Nat.{_≤_}
+use Prim.Native.Nat.{_-_, _<_, _≤_}
 use mathlib.Core.Path.{_≡_, refl, sym}
 use native.Mathlib.Omega.{arith}
 use borrow.Author.Needs.{needs}
 use lib.ListN.{length, getD, length-set}
+use Rattle.hash.specs.Hash.{hashOf}
 use Rattle.search.proofs.Counts.{Counting, counting-start, counting-load, counting-more, counting-over, counting-all, counting-blocked, over-leaves}
 use Rattle.search.proofs.blocks.count_cells.Statement.{statement}
 use Rattle.search.proofs.blocks.count_cells.Tie as tie
 
 abbrev Inv-loop : tie.InvT-loop
-Inv-loop p k reciprocal codes blocks₀ counts₀ n most c₀ i₀ blocks counts c i =
-    Counting p k codes i blocks counts c × ((length blocks ≡ length blocks₀) × (length counts ≡ length counts₀))
+Inv-loop h codes blocks₀ counts₀ most c₀ i₀ blocks counts c i =
+    Counting (h .prime) (h .multiplier) codes i blocks counts c × ((length blocks ≡ length blocks₀) × (length counts ≡ length counts₀))
 
 abbrev μ-loop : tie.MeasureT-loop
-μ-loop p k reciprocal codes blocks₀ counts₀ n most c₀ i₀ blocks counts c i = i
+μ-loop h codes blocks₀ counts₀ most c₀ i₀ blocks counts c i = i
 
 loop-holds : tie.Need-loop-holds Inv-loop μ-loop
 loop-holds c =
-    let called = c .before .before in
+    let called = c .before .before .before in
     let start = called .before .before .before .before .before in
-    (counting-start (start .pre .0 .some) (start .pre .0 .sized .0) (start .pre .0 .sized .1) (called .fill .ensures), (refl, refl))
+    (counting-start (start .pre .1 .some) (start .pre .1 .sized .0) (start .pre .1 .sized .1) (called .clear .ensures), (refl, refl))
 
 hash-below-by-requires : tie.Need-hash-below-by-requires Inv-loop μ-loop
 hash-below-by-requires c κs =
     let test = c .before in
-    let start = test .before .before .before .before .before .before .before .before .before in
-    (start .pre .0 .multiplier, (start .pre .0 .below _ (omega arith), start .pre .1))
+    let start = test .before .before .before .before .before .before .before .before .before .before in
+    (start .pre .0 .0, start .pre .1 .below _ (omega arith))
 
--- the count of the code's block, as it is read
-load :
-    (c : tie.After-slice-known4 Inv-loop μ-loop)
-    → getD (c .before .before .before .before .loop .counts) (c .before .hash-below-by .result) 0
-    ≤ length (c .before .before .before .before .before .before .before .before .before .before .before .before .args .codes .now)
-load c =
-    let called = c .before in
-    let test = called .before .before in
-    counting-load (test .before .loop .inv .0) (test .loop-test .taken) (called .hash-below-by .result) (called .hash-below-by .ensures .value)
-    (called .hash-below-by .ensures .range)
+-- the place of the code among as many blocks as codes, and the count of its block, as it is read
+module _ (c : tie.After-hash-below-by Inv-loop μ-loop) where
+  abbrev start : tie.Start Inv-loop μ-loop
+  start = c .before .before .before .before .before .before .before .before .before .before .before .before
+
+  own :
+      c .hash-below-by .result
+      ≡ hashOf (start .args .h .prime) (start .args .h .multiplier) (length (start .args .codes .now)) (getD (start .args .codes .now) (c .before .before .before .loop .i - 1) 0)
+  own = rw (← start .pre .0 .1) (c .hash-below-by .ensures .value)
+
+  within : c .hash-below-by .result < length (start .args .codes .now)
+  within = omega (arith, c .hash-below-by .ensures .range, start .pre .0 .1)
+
+  load : getD (c .before .before .before .loop .counts) (c .hash-below-by .result) 0 ≤ length (start .args .codes .now)
+  load =
+      let test = c .before .before in
+      counting-load (test .before .loop .inv .0) (test .loop-test .taken) (c .hash-below-by .result) own within
 
 returns : tie.Need-returns Inv-loop μ-loop
 returns c =
     let called = c .before .before in
     let test = called .before .before in
     over-leaves
-    (counting-over (test .before .loop .inv .0) (test .loop-test .taken) (called .hash-below-by .result) (called .hash-below-by .ensures .value)
-    (called .hash-below-by .ensures .range) (omega arith))
+    (counting-over (test .before .loop .inv .0) (test .loop-test .taken) (called .hash-below-by .result) (own called) (within called)
+    (omega (arith, start called .pre .0 .1)))
 
 loop-again : tie.Need-loop-again Inv-loop μ-loop
 loop-again c =
     let called = c .before .before in
     let test = called .before .before in (
-      counting-more (test .before .loop .inv .0) (test .loop-test .taken) (called .hash-below-by .result) (called .hash-below-by .ensures .value)
-          (called .hash-below-by .ensures .range) (omega arith),
+      counting-more (test .before .loop .inv .0) (test .loop-test .taken) (called .hash-below-by .result) (own called) (within called)
+          (omega (arith, start called .pre .0 .1)),
       (simp length-set (test .before .loop .inv .1 .0), simp length-set (test .before .loop .inv .1 .1)),
     )
 
@@ -72,25 +80,27 @@ count-cells-spec =
     (λ c κs. search needs)
     (λ c. omega arith)
     (λ c. omega arith)
-    (λ c. omega arith)
     loop-holds
     (λ c. omega arith)
     (λ c. search needs)
     (λ c. omega arith)
     hash-below-by-requires
+    (λ c. record { fits = omega (arith, within c, start c .pre .1 .few) })
     (λ c. search needs)
     (λ c. omega arith)
     (λ c. search needs)
     (λ c. search needs)
     (λ c. search needs)
-    (λ c. omega (arith, load c))
-    (λ c. omega (arith, load c))
-    (λ c. omega (arith, load c))
+    (λ c. record { fits = omega (arith, load (c .before), start (c .before) .pre .1 .few) })
+    (λ c. omega (arith, load (c .before)))
+    (λ c. omega (arith, load (c .before)))
+    (λ c. omega (arith, load (c .before)))
     (λ c. search needs)
     (λ c. search needs)
     returns
-    (λ c. omega (arith, load (c .before)))
+    (λ c. omega (arith, load (c .before .before)))
     (λ c. search needs)
+    (λ c. record { fits = omega (arith, load (c .before .before), start (c .before .before) .pre .1 .few) })
     (λ c. search needs)
     (λ c. search needs)
     (λ c. omega arith)

@@ -7,15 +7,15 @@ use Rattle.search.proofs.cells.apart.Statement.{statement}
 use Rattle.search.proofs.cells.apart.Tie as tie
 
 abbrev Inv-loop : tie.InvT-loop
-Inv-loop p q w reciprocal block taken₀ shared₀ i₀ taken shared i = Taking p q w block i taken shared
+Inv-loop h block taken₀ shared₀ i₀ taken shared i = Taking (h .prime) (h .multiplier) (h .places) block i taken shared
 
 abbrev μ-loop : tie.MeasureT-loop
-μ-loop p q w reciprocal block taken₀ shared₀ i₀ taken shared i = i
+μ-loop h block taken₀ shared₀ i₀ taken shared i = i
 
 hash-below-by-requires : tie.Need-hash-below-by-requires Inv-loop μ-loop
 hash-below-by-requires c κs =
     let start = c .before .before .before .before in
-    (start .pre .0 .1 .0, (start .pre .0 .0 .below _ (omega arith), start .pre .0 .1 .1))
+    (start .pre .0 .0, start .pre .0 .1 .below _ (omega arith))
 
 loop-again : tie.Need-loop-again Inv-loop μ-loop
 loop-again c =

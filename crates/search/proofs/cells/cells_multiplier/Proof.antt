@@ -4,15 +4,15 @@ use Prim.Native.Nat.{ℕ, _-_}
 use mathlib.Core.Path.{_≡_, refl, sym, ap, _∙_}
 use native.Mathlib.Omega.{arith}
 use lib.ListN.{length, replicate}
-use Rattle.search.proofs.LeastCells.{TryingCells, unplaced-few, cells-start, cells-found, cells-sized, cells-filled, cells-more}
+use Rattle.search.proofs.LeastCells.{TryingCells, unplaced-square, unplaced-few, cells-start, cells-found, cells-filled, cells-more}
 use Rattle.search.proofs.cells.cells_multiplier.Statement.{statement}
 use Rattle.search.proofs.cells.cells_multiplier.Tie as tie
 
 abbrev Inv-loop : tie.InvT-loop
-Inv-loop p reciprocal block cells₀ q₀ cells q = TryingCells p block q × (cells ≡ cells₀)
+Inv-loop p reciprocal block cells₀ places q₀ cells q = TryingCells p block q × (cells ≡ cells₀)
 
 abbrev μ-loop : tie.MeasureT-loop
-μ-loop p reciprocal block cells₀ q₀ cells q = p - q
+μ-loop p reciprocal block cells₀ places q₀ cells q = p - q
 
 loop-holds : tie.Need-loop-holds Inv-loop μ-loop
 loop-holds c = (cells-start (c .before .before .pre .0 .codes), refl)
@@ -21,28 +21,25 @@ place-block-requires : tie.Need-place-block-requires Inv-loop μ-loop
 place-block-requires c κs =
     let h = c .before .before in
     let start = h .before .before .before in (
+      (
+        record { below = omega (arith, h .loop .inv .0 .upto, h .loop .inv .0 .least .below); ready = start .pre .1 .1 },
+        ap length (sym (h .loop .inv .1)),
+      ),
       record { codes = start .pre .0 .codes; zeros = h .loop .inv .1 ∙ start .pre .0 .zeros },
-      (omega (arith, h .loop .inv .0 .upto, h .loop .inv .0 .least .below), rw (h .loop .inv .1) (start .pre .1 .1)),
     )
 
 -- q separates the block: its codes are taken out of the cells again
-cast-undo : tie.Need-cast-undo Inv-loop μ-loop
-cast-undo c =
-    let called = c .before .before .before in
-    let h = called .before .before .before in
-    omega
-    (arith, called .place-block .kept .1 .1 .1 .1 .0, ap length (h .loop .inv .1), unplaced-few (h .before .before .before .pre .0))
-
 undo-requires : tie.Need-undo-requires Inv-loop μ-loop
 undo-requires c κs =
     let found = c .before in
     let called = found .before .before .before in
     let h = called .before .before .before in
-    let start = h .before .before .before in
-    let tried = called .place-block .ensures in
-    let sized = called .place-block .kept .1 .1 .1 .1 .0 ∙ ap length (h .loop .inv .1) in (
-      (start .pre .0 .codes .valid, (omega (arith, h .loop .inv .0 .upto, h .loop .inv .0 .least .below), rw sized (start .pre .1 .1))),
-      cells-filled tried (found .if1 .taken) _ (cells-sized tried (found .if1 .taken)),
+    let start = h .before .before .before in (
+      (
+        record { below = omega (arith, h .loop .inv .0 .upto, h .loop .inv .0 .least .below); ready = start .pre .1 .1 },
+        start .pre .0 .codes .valid,
+      ),
+      cells-filled (called .place-block .ensures) (found .if1 .taken) _ (unplaced-square (start .pre .0)),
     )
 
 returns : tie.Need-returns Inv-loop μ-loop
@@ -51,11 +48,9 @@ returns c =
     let found = undone .before .before in
     let called = found .before .before .before in
     let h = called .before .before .before in
-    let tried = called .place-block .ensures in (
-      cells-found tried (h .loop .inv .0) (found .if1 .taken),
-      undone .undo .ensures
-          ∙ ap (λ (n : ℕ). replicate n 0) (cells-sized tried (found .if1 .taken))
-          ∙ sym (h .before .before .before .pre .0 .zeros),
+    let start = h .before .before .before in (
+      cells-found (called .place-block .ensures) (h .loop .inv .0) (found .if1 .taken),
+      undone .undo .ensures ∙ ap (λ (n : ℕ). replicate n 0) (unplaced-square (start .pre .0)) ∙ sym (start .pre .0 .zeros),
     )
 
 same-length : tie.Need-same-length Inv-loop μ-loop
@@ -78,9 +73,9 @@ cells-multiplier-spec =
     (tie.spec
     Inv-loop
     μ-loop
+    (λ c. omega (arith, unplaced-few (c .before .before .pre .0)))
     loop-holds
     place-block-requires
-    cast-undo
     undo-requires
     same-length
     returns

@@ -19,7 +19,10 @@ abbrev μ-loop : tie.MeasureT-loop
 apart-requires : tie.Need-apart-requires Inv-loop μ-loop
 apart-requires c κs =
     let start = c .before .before in (
-      (start .pre .0 .0 .valid, (omega (arith, c .loop .inv .upto, c .loop .inv .least .below), start .pre .1 .1)),
+      (
+        record { below = omega (arith, c .loop .inv .upto, c .loop .inv .least .below); ready = start .pre .1 .1 },
+        start .pre .0 .0 .valid,
+      ),
       few-cells (start .args .block .now) (start .pre .0 .1) (start .pre .1 .0 .1),
     )
 

@@ -1,28 +1,32 @@
 -- `search::cells::place_block` meets its contract. The loop's invariant is `Placing`: the codes from i on are in their cells. The measure is i.
+use mathlib.Core.Path.{_≡_, _∙_}
 use native.Mathlib.Omega.{arith}
 use borrow.Author.Needs.{needs}
-use Rattle.search.specs.code.Cells.{Placing}
+use Rattle.search.specs.code.Cells.{square, Placing}
 use Rattle.search.proofs.Places.{placing-start, placing-more, placing-stop}
-use Rattle.search.proofs.LeastCells.{unplaced-zeros, unplaced-few, tried-all, tried-stop}
+use Rattle.search.proofs.LeastCells.{unplaced-square, unplaced-zeros, tried-all, tried-stop}
 use Rattle.search.proofs.cells.place_block.Statement.{statement}
 use Rattle.search.proofs.cells.place_block.Tie as tie
 
 abbrev Inv-loop : tie.InvT-loop
-Inv-loop p q reciprocal block cells₀ w i₀ cells i = Placing p q w block i cells
+Inv-loop h block cells₀ i₀ cells i = Placing (h .prime) (h .multiplier) (h .places) block i cells
 
 abbrev μ-loop : tie.MeasureT-loop
-μ-loop p q reciprocal block cells₀ w i₀ cells i = i
+μ-loop h block cells₀ i₀ cells i = i
+
+square-cells : (start : tie.Start Inv-loop μ-loop) → start .args .h .places ≡ square (start .args .block .now)
+square-cells start = start .pre .0 .1 ∙ unplaced-square (start .pre .1)
 
 hash-below-by-requires : tie.Need-hash-below-by-requires Inv-loop μ-loop
 hash-below-by-requires c κs =
     let start = c .before .before .before .before .before in
-    (start .pre .1 .0, (start .pre .0 .codes .valid .below _ (omega arith), start .pre .1 .1))
+    (start .pre .0 .0, start .pre .1 .codes .valid .below _ (omega arith))
 
 undo-requires : tie.Need-undo-requires Inv-loop μ-loop
 undo-requires c κs =
     let h = c .before .before .before .before .before .before in
     let start = h .before .before .before in
-    ((start .pre .0 .codes .valid, start .pre .1), h .loop .inv)
+    ((start .pre .0 .0, start .pre .1 .codes .valid), h .loop .inv)
 
 returns : tie.Need-returns Inv-loop μ-loop
 returns c =
@@ -32,8 +36,8 @@ returns c =
     let test = called .before .before in
     let h = test .before in
     let start = h .before .before .before in
-    tried-stop (start .pre .0)
-    (placing-stop (h .loop .inv) (start .pre .0 .codes .valid) (test .loop-test .taken) (called .hash-below-by .result)
+    tried-stop (start .pre .1) (square-cells start)
+    (placing-stop (h .loop .inv) (start .pre .1 .codes .valid) (test .loop-test .taken) (called .hash-below-by .result)
     (called .hash-below-by .ensures .value) (called .hash-below-by .ensures .range) (found .if1 .taken))
     (undone .undo .ensures)
 
@@ -42,11 +46,14 @@ loop-again c =
     let called = c .before .before in
     let test = called .before .before in
     let h = test .before in
-    placing-more (h .loop .inv) (h .before .before .before .pre .0 .codes .valid) (test .loop-test .taken) (called .hash-below-by .result)
+    placing-more (h .loop .inv) (h .before .before .before .pre .1 .codes .valid) (test .loop-test .taken) (called .hash-below-by .result)
     (called .hash-below-by .ensures .value) (called .hash-below-by .ensures .range) (c .if1 .left)
 
 returns-2 : tie.Need-returns-2 Inv-loop μ-loop
-returns-2 c = let h = c .before in tried-all (h .before .before .before .pre .0) (h .loop .inv) (c .loop-test .left)
+returns-2 c =
+    let h = c .before in
+    let start = h .before .before .before in
+    tried-all (start .pre .1) (square-cells start) (h .loop .inv) (c .loop-test .left)
 
 pub place-block-spec : {M : Type 1} → statement M
 place-block-spec =
@@ -54,8 +61,7 @@ place-block-spec =
     (tie.spec
     Inv-loop
     μ-loop
-    (λ c. omega (arith, unplaced-few (c .before .before .pre .0)))
-    (λ c. placing-start (unplaced-zeros (c .before .before .pre .0)))
+    (λ c. placing-start (unplaced-zeros (c .before .before .pre .1) (square-cells (c .before .before))))
     (λ c. omega arith)
     (λ c. search needs)
     (λ c. omega arith)

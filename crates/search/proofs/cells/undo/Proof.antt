@@ -10,15 +10,15 @@ use Rattle.search.proofs.cells.undo.Statement.{statement}
 use Rattle.search.proofs.cells.undo.Tie as tie
 
 abbrev Inv-loop : tie.InvT-loop
-Inv-loop p q w reciprocal block from cells₀ i₀ cells i = Placing p q w block i cells
+Inv-loop h block from cells₀ i₀ cells i = Placing (h .prime) (h .multiplier) (h .places) block i cells
 
 abbrev μ-loop : tie.MeasureT-loop
-μ-loop p q w reciprocal block from cells₀ i₀ cells i = length block - i
+μ-loop h block from cells₀ i₀ cells i = length block - i
 
 hash-below-by-requires : tie.Need-hash-below-by-requires Inv-loop μ-loop
 hash-below-by-requires c κs =
     let start = c .before .before .before .before .before in
-    (start .pre .0 .1 .0, (start .pre .0 .0 .below _ (c .before .loop-test .taken), start .pre .0 .1 .1))
+    (start .pre .0 .0, start .pre .0 .1 .below _ (c .before .loop-test .taken))
 
 loop-again : tie.Need-loop-again Inv-loop μ-loop
 loop-again c =
