@@ -1,13 +1,14 @@
--- What the proofs of the functions cite, by topic.
-mod Starts
+-- In reading order: lists part by part and one after the other, and the words of a table in any state; one block; the blocks of codes, the first words,
+-- and the pairs gathered; numbers that pass a test, the blocks that are listed and placed one after the other, and the whole.
+mod Parts
 mod Joined
-mod Listing
-mod Vacancies
-mod Pending
+mod Laid
+mod Placing
+mod Blocks
+mod Groups
 mod Fronts
-mod Assembly
+mod Gathering
+mod Choosing
+mod Listing
+mod Sharing
 mod Totals
-pub mod Choosing
-pub mod Groups
-pub mod Parts
-pub mod Spreading

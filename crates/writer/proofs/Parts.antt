@@ -1,14 +1,13 @@
--- Lists that are written part by part: a part that was lent and has come back, a store in a later part, and a list written from its front.
-use Prim.Native.Nat.{ℕ, zero, suc, _+_, _<_}
-use mathlib.Core.List.{List, [], _∷_, _++_, append-assoc, append-nil}
+-- Lists that are written part by part: a part that was lent and has come back, a store in a later part, and a list written to its end.
+use Prim.Native.Nat.{ℕ, zero, suc, _+_, _-_, _<_}
+use mathlib.Core.List.{List, [], _∷_, _++_, append-nil}
 use mathlib.Core.Path.{_≡_, sym, ap, _∙_}
 use native.Mathlib.Nat.{suc-add}
-use native.Mathlib.Numerals.{add-one}
 use native.Mathlib.Omega.{arith}
 use lib.ListN.{length, take, drop, set, replicate, replicate-append-replicate}
-use lib.Seq.{take-at, drop-at, set-at, set-append-left, drop-cons, drop-length}
+use lib.Seq.{take-at, drop-at, set-append-left, drop-length}
 use Rattle.table.specs.TwoLevel.{tabulate}
-use Rattle.table.proofs.Tabulate.{tabulate-length}
+use Rattle.writer.specs.code.Block.{putAt}
 
 -- the m from a on
 module _ (words pre mid post : List ℕ) (is : words ≡ pre ++ (mid ++ post)) (a m : ℕ) (from : length pre ≡ a) (size : length mid ≡ m) where
@@ -36,16 +35,13 @@ pub set-in :
 set-in pre mid post a i v from l =
     set-past pre (mid ++ post) a i v from ∙ ap (λ (s : List ℕ). pre ++ s) (set-append-left mid post i v l)
 
--- the first j of f 0, f 1, .. are written
-pub written-more :
-    (f : ℕ → ℕ) (j v : ℕ) (words old : List ℕ) → words ≡ tabulate f j ++ drop j old → v ≡ f j → j < length old
-    → set words j v ≡ tabulate f (j + 1) ++ drop (j + 1) old
-unfolding tabulate
-written-more f j v words old is value l =
-    rw (is, value, add-one j, drop-cons old j 0 l, set-at (tabulate f j) _ (drop (suc j) old) (f j) j (tabulate-length f j))
-    (sym (append-assoc (tabulate f j) (f j ∷ []) (drop (suc j) old)))
-
+-- all of f 0, f 1, .. are written
 pub written-all :
     (f : ℕ → ℕ) (j : ℕ) (words old : List ℕ) → words ≡ tabulate f j ++ drop j old → j ≡ length old → words ≡ tabulate f (length old)
 written-all f j words old is end =
     is ∙ rw (end, drop-length old) (append-nil (tabulate f (length old)))
+
+-- a part that comes back as long as it was lent
+pub put-part : (a w : ℕ) (new words : List ℕ) → length new ≡ w → take a words ++ (new ++ drop (a + w - a) (drop a words)) ≡ putAt a new words
+put-part a w new words same =
+    let e : a + w - a ≡ length new = omega arith in ap (λ (m : ℕ). take a words ++ (new ++ drop m (drop a words))) e

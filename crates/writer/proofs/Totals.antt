@@ -1,7 +1,7 @@
--- The table of a valid list: its total, the words that are kept or written, and the scratch buffers.
+-- The table of a valid list: its total, the words that are kept or written, and what the search for k leaves.
 use Prim.Native.Nat.{ℕ, _+_, _*_, _<_, _≤_}
 use mathlib.Core.List.{List, [], _∷_, _++_}
-use mathlib.Core.Path.{_≡_, sym, ap, _∙_}
+use mathlib.Core.Path.{_≡_, refl, sym, ap, _∙_}
 use native.Mathlib.Decide.{ℕ-discrete}
 use native.Mathlib.Omega.{arith}
 use borrow.Author.Tests.{lt-ltb, le-ltb}
@@ -9,14 +9,14 @@ use lib.ListN.{length, getD, drop}
 use Rattle.hash.specs.Hash.{cells}
 use Rattle.table.specs.Answers.{Answer, given, refused, filled, intoRoom}
 use Rattle.table.specs.TwoLevel.{frontWith, frontOf, tableWith, tableOf, cellsOf, wordsNeeded}
-use Rattle.table.proofs.Tabulate.{tabulate-at, tabulate-head}
+use Rattle.table.proofs.Tabulate.{tabulate-at}
 use Rattle.table.proofs.Chosen.{few-cells, no-cells}
 use Rattle.table.proofs.Contents.{needed-is, table-length}
 use Rattle.search.specs.code.Searchable.{Searchable}
 use Rattle.table.specs.Limits.{room}
 use Rattle.search.specs.code.Blocks.{LeastBlocks, Blocked}
 use Rattle.writer.specs.code.Grouping.{BlockOfEach, Loads}
-use Rattle.writer.specs.code.Writing.{Writable, Scratch}
+use Rattle.writer.specs.code.Writing.{Writable}
 use Rattle.writer.specs.code.Valid.{ValidBuilt}
 
 module _ {p k c : ℕ} {codes : List ℕ} (s : Searchable p codes) (f : LeastBlocks p codes k c) where
@@ -41,8 +41,11 @@ module _ {p k c : ℕ} {codes : List ℕ} (s : Searchable p codes) (f : LeastBlo
   pub total-fits : total < 4294967296
   total-fits = omega (arith, few, s .few)
 
-  pub valid-writable : (schedules : List ℕ) → length schedules ≡ length codes → Writable p k c codes schedules
-  valid-writable schedules parallel = record { searchable = s; cells-are = f .cells; parallel = parallel }
+  pub valid-writable :
+      (schedules : List ℕ) → length schedules ≡ length codes
+      → Writable (record { prime = p; multiplier = k; codes = length codes; cells = c }) codes schedules
+  valid-writable schedules parallel =
+      record { searchable = s; codes-are = refl; cells-are = f .cells; few-cells = few; parallel = parallel }
 
   module _ (schedules words : List ℕ) where
     pub too-short : length words < total → ValidBuilt p codes schedules words total words
@@ -72,23 +75,11 @@ module _ {p k c : ℕ} {codes : List ℕ} (s : Searchable p codes) (f : LeastBlo
 
 -- ---- what the search for k leaves
 
-module _ {p k : ℕ} {codes blocks counts : List ℕ} (b : Blocked p k codes blocks counts) where
+module _ {p k : ℕ} {codes blocks loads : List ℕ} (b : Blocked p k codes blocks loads) where
   pub blocked-blocks : length codes ≤ room → length blocks ≡ length codes → BlockOfEach p k codes blocks
-  blocked-blocks few same = record { few = few; each = omega arith; blocks-are = λ i l. ap (λ (s : List ℕ). getD s i 0) (b .blocks-are) ∙ tabulate-at _ (length codes) i l }
+  blocked-blocks few same =
+      record { few = few; each = same; blocks-are = λ i l. ap (λ (s : List ℕ). getD s i 0) (b .blocks-are) ∙ tabulate-at _ (length codes) i l }
 
-  pub blocked-loads : (rest : List ℕ) → Loads p k codes (counts ++ rest)
-  blocked-loads rest =
-      record { counts-are = λ j l. ap (λ (s : List ℕ). getD (s ++ rest) j 0) (b .loads-are) ∙ tabulate-head _ (length codes) j rest l }
-
--- ---- scratch buffers
-
--- those for m codes serve fewer
-pub scratch-for :
-    {n m : ℕ} (at grouped scheduled lists : List ℕ) → n ≤ m → length at ≡ m + 1 → (length grouped ≡ m) × (length scheduled ≡ m) → length lists ≡ 3 * m
-    → Scratch n at grouped scheduled lists
-scratch-for at grouped scheduled lists few at-is (grouped-is, scheduled-is) lists-are =
-    record {
-      at-room = omega (arith, at-is, few);
-      grouped-room = (omega (arith, grouped-is, few), omega (arith, scheduled-is, few));
-      listed-room = omega (arith, lists-are, few);
-    }
+  pub blocked-loads : length loads ≡ length codes → Loads p k codes loads
+  blocked-loads same =
+      record { each = same; loads-are = λ j l. ap (λ (s : List ℕ). getD s j 0) (b .loads-are) ∙ tabulate-at _ (length codes) j l }

@@ -1,6 +1,5 @@
--- In reading order: the pairs of a list grouped by block, those of one block in their cells, the words of the table, and what is promised
--- of them all.
+-- In the code's order: the pairs grouped by block, one block, the words, and the table of a valid list.
 pub mod Grouping
-pub mod Spread
+pub mod Block
 pub mod Writing
 pub mod Valid

@@ -1,104 +1,82 @@
--- The words of a table, from the pairs grouped by block: `at` has where each group starts, and where the last one ends; `grouped` has the codes, and
--- `scheduled` the schedule of each. All blocks are pending at first; those with a code are listed by how many they have, and written list by list.
-use Prim.Native.Nat.{ℕ, zero, suc, _+_, _*_, _-_, _<_, _≤_}
-use mathlib.Core.Bool.{Bool, cond}
+-- The words of a table while they are written: in every state a number for each block's start and one for its multiplier, and its cells, for the codes and
+-- for the schedules.
+use Prim.Native.Nat.{ℕ, zero, suc, _+_, _*_, _-_, _≤_}
 use mathlib.Core.List.{List, [], _∷_, _++_}
 use mathlib.Core.Path.{_≡_}
-use lib.Dec.{ltb}
-use lib.ListN.{length, getD, take, drop, set, replicate}
-use Rattle.hash.specs.Hash.{sum, cells}
-use Rattle.table.specs.TwoLevel.{tabulate, cellsMultiplier}
-use Rattle.search.specs.code.Cells.{square, filledBy}
+use lib.ListN.{length, getD, drop, set, replicate}
+use Rattle.hash.specs.Hash.{load, cells}
+use Rattle.table.specs.TwoLevel.{tabulate, startOf, cellsMultiplier}
+use Rattle.search.specs.code.Cells.{filledBy}
+use Rattle.search.specs.code.Placed.{valuesOf}
 use Rattle.search.specs.code.Searchable.{Searchable}
-use Rattle.writer.specs.code.Spread.{spreadIn, Cleared}
-
--- group j: how many codes it has, and their values
-abbrev pub sizeAt : List ℕ → ℕ → ℕ
-sizeAt at j = getD at (j + 1) 0 - getD at j 0
-
-abbrev pub groupAt : List ℕ → List ℕ → ℕ → List ℕ
-groupAt at grouped j = take (sizeAt at j) (drop (getD at j 0) grouped)
-
--- where its block's cells start
-unfoldable pub startAt : List ℕ → ℕ → ℕ
-startAt at j = sum (λ t. sizeAt at t * sizeAt at t) j
-
--- its multiplier
-abbrev pub multiplierAt : ℕ → List ℕ → List ℕ → ℕ → ℕ
-multiplierAt p at grouped j = cellsMultiplier p (groupAt at grouped j)
+use Rattle.writer.specs.code.Block.{codesAt, schedulesAt, putAt}
+use Rattle.writer.specs.code.Grouping.{startAt}
+use Rattle.writer.specs.declared.block.Block.{Block}
+use Rattle.writer.specs.declared.write.Shape.{Shape}
 
 -- f 0, f 1, .., f (n - 1), one after the other
 unfoldable pub joined : (ℕ → List ℕ) → ℕ → List ℕ
 joined f zero = []
 joined f (suc n) = joined f n ++ f n
 
--- n groups, one after the other, whose cells can be counted in a word
-pub record Offsets (n : ℕ) (at : List ℕ) : Type 0 where
-  pub room : n < length at
-  pub rises : (j : ℕ) → j < n → getD at j 0 ≤ getD at (j + 1) 0
-  pub countable : startAt at n < 4294967296
-
--- ---- the blocks
-
--- the multiplier of group j, and its values in their cells: 1 and 0 where it is pending
-abbrev pub multiplierBut : ℕ → List ℕ → List ℕ → (ℕ → Bool) → ℕ → ℕ
-multiplierBut p at grouped pending j = cond (pending j) 1 (multiplierAt p at grouped j)
-
-abbrev pub cellsBut : ℕ → List ℕ → List ℕ → List ℕ → (ℕ → Bool) → ℕ → List ℕ
-cellsBut p at grouped values pending j =
-    cond (pending j) (replicate (sizeAt at j * sizeAt at j) 0)
-    (filledBy p (multiplierAt p at grouped j) (groupAt at grouped j) (groupAt at values j))
-
--- a table without the blocks that are pending
-abbrev pub tableBut : ℕ → ℕ → ℕ → ℕ → List ℕ → List ℕ → List ℕ → (ℕ → Bool) → List ℕ
-tableBut p n c k at grouped scheduled pending =
-    (n ∷ c ∷ k ∷ [])
-    ++ (tabulate (startAt at) n
-    ++ (tabulate (multiplierBut p at grouped pending) n
-    ++ (joined (cellsBut p at grouped grouped pending) n
-    ++ joined (cellsBut p at grouped scheduled pending) n)))
-
--- the groups of a list, which have c cells
-pub record Groups (p n c : ℕ) (at grouped scheduled : List ℕ) : Type 0 where
-  pub offsets : Offsets n at
-  pub within : (j : ℕ) → j < n → (getD at (j + 1) 0 ≤ length grouped) × (getD at (j + 1) 0 ≤ length scheduled)
-  pub codes : (j : ℕ) → j < n → Searchable p (groupAt at grouped j)
-  pub cells-are : startAt at n ≡ c
-
--- the blocks with more than m codes
-abbrev pub above : List ℕ → ℕ → ℕ → Bool
-above at m j = ltb m (sizeAt at j)
-
--- a block with its values, and words where j stands before its cells, which are 0
-pub record Vacant (p : ℕ) (block values : List ℕ) (c j start : ℕ) (words : List ℕ) : Type 0 where
-  pub codes : Searchable p block
-  pub apart : j < start
-  pub enough : start + c + square block ≤ length words
-  pub cleared : Cleared block values c (take (c + square block) (drop start words))
-
--- the words with the block's codes and values written from `start` on, and its multiplier at j
-abbrev pub blockIn : ℕ → List ℕ → List ℕ → ℕ → ℕ → ℕ → List ℕ → List ℕ
-blockIn p block values c j start words =
-    set
-    (take start words
-    ++ (spreadIn p (cellsMultiplier p block) block values c (take (c + square block) (drop start words))
-    ++ drop (c + square block) (drop start words)))
-    j (cellsMultiplier p block)
-
--- ---- the whole table
+abbrev pub laid : Shape → (ℕ → ℕ) → (ℕ → ℕ) → (ℕ → List ℕ) → (ℕ → List ℕ) → List ℕ
+laid shape starts multipliers codes schedules =
+    (shape .codes ∷ shape .cells ∷ shape .multiplier ∷ [])
+    ++ (tabulate starts (shape .codes)
+    ++ (tabulate multipliers (shape .codes) ++ (joined codes (shape .codes) ++ joined schedules (shape .codes))))
 
 -- words that begin with n, c and k, and are 0 after them
 abbrev pub headed : ℕ → ℕ → ℕ → ℕ → List ℕ
 headed n c k size = n ∷ c ∷ k ∷ replicate (size - 3) 0
 
--- codes, the cells that multiplier k gives them, and a schedule for each
-pub record Writable (p k c : ℕ) (codes schedules : List ℕ) : Type 0 where
-  pub searchable : Searchable p codes
-  pub cells-are : c ≡ cells p k codes
+-- codes, the cells that k gives them, not too many, and a schedule for each
+pub record Writable (shape : Shape) (codes schedules : List ℕ) : Type 0 where
+  pub searchable : Searchable (shape .prime) codes
+  pub codes-are : shape .codes ≡ length codes
+  pub cells-are : shape .cells ≡ cells (shape .prime) (shape .multiplier) codes
+  pub few-cells : shape .cells ≤ 3 * length codes
   pub parallel : length schedules ≡ length codes
 
--- scratch buffers for n codes: where the groups start, the groups, and the blocks that are listed
-pub record Scratch (n : ℕ) (at grouped scheduled lists : List ℕ) : Type 0 where
-  pub at-room : n < length at
-  pub grouped-room : (n ≤ length grouped) × (n ≤ length scheduled)
-  pub listed-room : 3 * n ≤ length lists
+-- before the first pair: where the codes of each block end, the multiplier 1, and empty cells
+abbrev pub emptyCells : List ℕ → ℕ → List ℕ
+emptyCells loads j = replicate (getD loads j 0 * getD loads j 0) 0
+
+abbrev pub begun : Shape → List ℕ → List ℕ
+begun shape loads = laid shape (λ j. startAt loads j + getD loads j 0) (λ j. 1) (emptyCells loads) (emptyCells loads)
+
+-- how many of the pairs from i on belong to block j
+abbrev pub loadFrom : ℕ → ℕ → List ℕ → ℕ → ℕ → ℕ
+loadFrom p k codes i j = load p k (length codes) j (drop i codes)
+
+-- the places in block j before the pairs from i on: as many as pairs are missing
+abbrev pub missing : ℕ → ℕ → List ℕ → ℕ → ℕ → ℕ
+missing p k codes i j = load p k (length codes) j codes - loadFrom p k codes i j
+
+-- with the pairs from i on in the first cells of their blocks, in the list's order: the first of them stands where it will when none is missing
+abbrev pub startFrom : ℕ → ℕ → List ℕ → ℕ → ℕ → ℕ
+startFrom p k codes i j = startOf p k codes j + missing p k codes i j
+
+abbrev pub cellsFrom : ℕ → ℕ → List ℕ → List ℕ → ℕ → ℕ → List ℕ
+cellsFrom p k codes values i j =
+    replicate (missing p k codes i j) 0
+    ++ (valuesOf p k (length codes) j (drop i codes) (drop i values)
+    ++ replicate (load p k (length codes) j codes * load p k (length codes) j codes - load p k (length codes) j codes) 0)
+
+abbrev pub tableFrom : Shape → List ℕ → List ℕ → ℕ → List ℕ
+tableFrom shape codes schedules i =
+    laid shape (startFrom (shape .prime) (shape .multiplier) codes i) (λ j. 1) (cellsFrom (shape .prime) (shape .multiplier) codes codes i)
+    (cellsFrom (shape .prime) (shape .multiplier) codes schedules i)
+
+-- block j in the words, once its pairs are gathered
+abbrev pub blockAt : Shape → List ℕ → ℕ → List ℕ → Block
+blockAt shape loads j words =
+    record { start = 3 + shape .codes + shape .codes + getD words (3 + j) 0; codes = getD loads j 0; cells = shape .cells }
+
+-- the words with the block's pairs placed, and its multiplier
+abbrev pub blockIn : Shape → Block → ℕ → List ℕ → List ℕ
+blockIn shape b j words =
+    let q = cellsMultiplier (shape .prime) (codesAt b words) in
+    set
+    (putAt (b .start + b .cells) (filledBy (shape .prime) q (codesAt b words) (schedulesAt b words))
+    (putAt (b .start) (filledBy (shape .prime) q (codesAt b words) (codesAt b words)) words))
+    (3 + shape .codes + j) q

@@ -1,96 +1,74 @@
 -- `writer::valid::write_with` meets its contract: c is that of the least k, and at most 3n, so that the total is a word.
-use Prim.Native.Nat.{ℕ}
-use mathlib.Core.Path.{_≡_, sym, _∙_}
+use Prim.Native.Nat.{ℕ, _+_, _*_, _<_}
+use mathlib.Core.Path.{sym, _∙_}
 use native.Mathlib.Omega.{arith}
-use lib.ListN.{length, take, drop}
+use lib.ListN.{length}
 use lib.Seq.{length-take-le, length-front}
 use borrow.Author.Needs.{needs}
+use Rattle.search.specs.code.Blocks.{LeastBlocks}
 use Rattle.writer.proofs.Totals.{total-fits, too-short, valid-writable, valid-written, blocked-blocks, blocked-loads}
 use Rattle.writer.proofs.valid.write_with.Statement.{statement}
 use Rattle.writer.proofs.valid.write_with.Tie as tie
 
--- a count for each block is lent
-lent :
-    (c : tie.Start) → length (take (length (c .args .codes .now)) (c .args .at .now)) ≡ length (c .args .codes .now)
-lent c = length-take-le (length (c .args .codes .now)) (c .args .at .now) (omega (arith, c .pre .1 .1 .at-room))
+-- what the search found
+module _ (c : tie.After-wide) where
+  abbrev found : tie.After-blocks-multiplier
+  found = c .before .before .before .before .before
 
-blocks-multiplier-requires : tie.Need-blocks-multiplier-requires
-blocks-multiplier-requires c κs =
-    let start = c .before .before .before .before .before .before .before .before .before .before in
-    (start .pre .0, (start .pre .1 .0 .1, lent start))
+  abbrev start : tie.Start
+  start = found .before .before .before .before .before .before .before .before
 
-cast-given : tie.Need-cast-given
-cast-given c =
-    let found = c .before .before .before .before in
-    let start = found .before .before .before .before .before .before .before .before .before .before .before in
-    record { fits = total-fits (start .pre .0) (found .blocks-multiplier .ensures .0) }
+  least : LeastBlocks (start .args .p) (start .args .codes .now) (found .blocks-multiplier .result .k) (c .wide .result)
+  least =
+      record {
+        multiplier = found .blocks-multiplier .ensures .0 .multiplier;
+        cells = c .wide .ensures .value ∙ found .blocks-multiplier .ensures .0 .cells;
+      }
+
+  abbrev total : ℕ
+  total = 3 + 2 * length (start .args .codes .now) + 2 * c .wide .result
+
+  fits : total < 4294967296
+  fits = total-fits (start .pre .0 .0) least
 
 returns : tie.Need-returns
-returns c =
-    let found = c .before .before .before .before .before in
-    let start = found .before .before .before .before .before .before .before .before .before .before .before in
-    too-short (start .pre .0) (found .blocks-multiplier .ensures .0) _ _ (c .if1 .taken)
-
-slice-aggregate-write-table : tie.Need-slice-aggregate-write-table
-slice-aggregate-write-table c = sym (length-take-le _ _ (c .before .before .before .before .before .before .if1 .left))
+returns c = let shaped = c .before .before .before in too-short (start shaped .pre .0 .0) (least shaped) _ _ (c .if1 .taken)
 
 write-table-requires : tie.Need-write-table-requires
 write-table-requires c κs =
-    let test = c .before .before .before .before .before .before in
-    let found = test .before .before .before .before .before in
-    let start = found .before .before .before .before .before .before .before .before .before .before .before in
-    let n : ℕ = length (start .args .codes .now) in
-    let b = found .blocks-multiplier .ensures .1 in
-    let kept = found .blocks-multiplier .kept .1 .1 in
-    let at-kept = length-front (start .args .at .now) (found .blocks-multiplier .last .1 .1 .1 .0) n (kept .1 .0) in (
-      valid-writable (start .pre .0) (found .blocks-multiplier .ensures .0) _ (start .pre .1 .0 .0),
+    let shaped = c .before .before .before .before .before .before in
+    let begun = start shaped in
+    let left = found shaped .blocks-multiplier in (
+      valid-writable (begun .pre .0 .0) (least shaped) _ (begun .pre .0 .1),
       (
-        (
-          blocked-blocks b (start .pre .0 .few) (kept .0 ∙ start .pre .1 .0 .1),
-          blocked-loads b (drop n (start .args .at .now)),
-        ),
-        (
-          record {
-            at-room = omega (arith, at-kept, start .pre .1 .1 .at-room);
-            grouped-room = start .pre .1 .1 .grouped-room;
-            listed-room = start .pre .1 .1 .listed-room;
-          },
-          length-take-le _ _ (test .if1 .left),
-        ),
+        blocked-blocks (left .ensures .1) (begun .pre .0 .0 .few) (left .kept .1 .1 .0 ∙ begun .pre .1 .0),
+        (blocked-loads (left .ensures .1) (left .kept .1 .1 .1 .0 ∙ begun .pre .1 .1), length-take-le _ _ (c .before .before .before .if1 .left)),
       ),
     )
 
 returns-2 : tie.Need-returns-2
 returns-2 c =
-    let wrote = c .before .before .before .before .before .before .before .before .before .before in
-    let test = wrote .before .before .before .before .before .before .before in
-    let found = test .before .before .before .before .before in
-    let start = found .before .before .before .before .before .before .before .before .before .before .before in
-    valid-written (start .pre .0) (found .blocks-multiplier .ensures .0) _ _ _ (test .if1 .left) (wrote .write-table .ensures)
+    let shaped = c .before .before .before .before .before .before .before .before .before .before .before in
+    valid-written (start shaped .pre .0 .0) (least shaped) _ _ _ (c .before .before .before .before .before .before .before .before .if1 .left) (c .before .before .before .before .write-table .ensures)
 
 pub write-with-spec : {M : Type 1} → statement M
 write-with-spec =
     tie.close
     (tie.spec
-    (λ c. omega (arith, c .before .before .before .before .before .before .before .before .before .pre .1 .1 .at-room))
-    (λ c. sym (lent (c .before .before .before .before .before .before .before .before .before .before)))
-    blocks-multiplier-requires
-    (λ c. search needs)
-    (λ c. search needs)
-    (λ c. search needs)
-    (λ c. search needs)
-    (λ c. search needs)
-    cast-given
+    (λ c κs. let start = c .before .before .before .before .before .before .before in (start .pre .0 .0, start .pre .1))
+    (λ c κs. search needs)
+    (λ c. omega (arith, fits (c .before)))
+    (λ c. omega (arith, fits (c .before)))
+    (λ c. omega (arith, fits (c .before .before)))
+    (λ c. omega (arith, fits (c .before .before)))
+    (λ c. record { fits = fits (c .before .before) })
     (λ c. search needs)
     (λ c. search needs)
     returns
-    (λ c. search needs)
-    slice-aggregate-write-table
+    (λ c. c .before .before .if1 .left)
+    (λ c. sym (length-take-le _ _ (c .before .before .before .if1 .left)))
     write-table-requires
-    (λ c. search needs)
-    (λ c. search needs)
-    (λ c. search needs)
-    (λ c. search needs)
-    (λ c. search needs)
-    (λ c. search needs)
+    (λ c. c .before .before .before .before .write-table .kept .1 .1 .1 .0 ∙ c .before .before .before .before .before .before .before .before .before .before .before .before .before .before .before .before .blocks-multiplier .kept .1 .1 .0)
+    (λ c. c .before .before .before .before .before .before .before .before .before .before .before .before .before .before .before .before .blocks-multiplier .kept .1 .1 .1 .0)
+    (λ c. length-front _ (c .before .before .before .before .write-table .last .1 .1 .1 .1 .1 .0) (total (c .before .before .before .before .before .before .before .before .before .before .before)) (c .before .before .before .before .write-table .kept .1 .1 .1 .1 .1 .0))
     returns-2)

@@ -6,19 +6,15 @@ use Rattle.writer.proofs.Fronts.{header-set}
 use Rattle.writer.proofs.write.write_header.Statement.{statement}
 use Rattle.writer.proofs.write.write_header.Tie as tie
 
-slice-write-words-2 : tie.Need-slice-write-words-2
-slice-write-words-2 c = simp length-set (omega (arith, c .before .before .fill .kept .0))
-
-returns : tie.Need-returns
-returns c = header-set _ _ _ _ _ (c .before .before .fill .ensures) (c .before .before .before .before .before .pre)
-
 pub write-header-spec : {M : Type 1} → statement M
 write-header-spec =
     tie.close
     (tie.spec
     (λ c κs. search needs)
     (λ c. search needs)
-    slice-write-words-2
     (λ c. search needs)
     (λ c. search needs)
-    returns)
+    (λ c. simp length-set (omega (arith, c .before .before .before .before .fill .kept .0)))
+    (λ c. search needs)
+    (λ c. search needs)
+    (λ c. header-set _ _ _ _ _ (c .before .before .before .before .fill .ensures) (c .before .before .before .before .before .before .before .pre .0)))

@@ -1,60 +1,177 @@
--- `writer::write::write_table` meets its contract: group j is block j, so that what is written from the groups is the table's.
-use Prim.Native.Nat.{ℕ, _*_, _<_, _≤_}
+-- `writer::write::write_table` meets its contract. Invariant: the listed blocks from t on are as they were gathered, all others are the table's. The measure
+-- is what is left of the list.
+use Prim.Native.Nat.{ℕ, _+_, _-_, _<_, _≤_}
+use mathlib.Core.Bool.{Bool, true, false}
+use mathlib.Core.List.{List}
+use mathlib.Core.Path.{_≡_, refl, sym, ap, _∙_}
 use native.Mathlib.Omega.{arith}
 use borrow.Author.Needs.{needs}
-use lib.ListN.{length}
-use Rattle.writer.proofs.Assembly.{listed-sizes, both-groups, none-pending}
+use borrow.Author.Tests.{ltb-true}
+use lib.Dec.{ltb}
+use lib.ListN.{length, getD, take, drop}
+use lib.Seq.{length-take-le, getD-take}
+use Rattle.table.specs.Limits.{few, room}
+use Rattle.table.specs.Pairs.{among}
+use Rattle.writer.specs.code.Grouping.{chosen}
+use Rattle.writer.proofs.Sharing.{tableBut, sharing-begin, sharing-ext, listed-gathered, listed-more, sharing-end}
+use Rattle.writer.proofs.Listing.{waiting-begin, waiting-end, next-below, next-waits, next-done, next-other}
 use Rattle.writer.proofs.write.write_table.Statement.{statement}
 use Rattle.writer.proofs.write.write_table.Tie as tie
 
-group-requires : tie.Need-group-requires
-group-requires c κs =
-    let start = c .before .before .before .before .before .before .before .before .before .before .before .before in
-    let room = start .pre .1 .1 .0 in
-    ((start .pre .1 .0 .0, start .pre .0 .parallel), (start .pre .1 .0 .1, ((room .at-room, room .listed-room), room .grouped-room)))
+abbrev Inv-loop : tie.InvT-loop
+Inv-loop shape codes schedules blocks loads words₀ shared own₀ values₀ t₀ words own values t =
+    (words ≡ tableBut shape codes schedules (λ j. among j (drop t (take shared blocks))))
+    × ((length words ≡ length words₀) × ((length own ≡ few) × ((length values ≡ few) × (t ≤ shared))))
 
--- there is as much room as before
-module _ (c : tie.After-group) where
+abbrev μ-loop : tie.MeasureT-loop
+μ-loop shape codes schedules blocks loads words₀ shared own₀ values₀ t₀ words own values t = shared - t
+
+-- the blocks that are listed, and the words before the first of them
+module _ (c : tie.After-list-shared Inv-loop μ-loop) where
+  abbrev begin : tie.Start Inv-loop μ-loop
+  begin = c .before .before .before .before .before .before .before .before .before .before .before .before
+
   abbrev n : ℕ
-  n = length (c .before .before .before .before .before .before .before .before .before .before .before .before .before .args .codes .now)
+  n = begin .args .shape .codes
 
-  at-room : n < length (c .group .last .1 .1 .1 .1 .1 .0)
-  at-room = let start = c .before .before .before .before .before .before .before .before .before .before .before .before .before in omega (arith, c .group .kept .1 .1 .1 .1 .1 .0, start .pre .1 .1 .0 .at-room)
+  abbrev f : ℕ → Bool
+  f j = ltb 1 (getD (begin .args .loads .now) j 0)
 
-  grouped-room : (n ≤ length (c .group .last .1 .1 .1 .1 .1 .1 .0)) × (n ≤ length (c .group .last .1 .1 .1 .1 .1 .1 .1 .0))
-  grouped-room =
-      let room = c .before .before .before .before .before .before .before .before .before .before .before .before .before .pre .1 .1 .0 .grouped-room in
-      (omega (arith, c .group .kept .1 .1 .1 .1 .1 .1 .0, room .0), omega (arith, c .group .kept .1 .1 .1 .1 .1 .1 .1 .0, room .1))
+  abbrev listed : List ℕ
+  listed = take (c .list-shared .result) (c .list-shared .last .1 .0)
 
-  listed-room : 3 * n ≤ length (c .group .last .1 .1 .1 .1 .1 .1 .1 .1 .0)
-  listed-room = let start = c .before .before .before .before .before .before .before .before .before .before .before .before .before in omega (arith, c .group .kept .1 .1 .1 .1 .1 .1 .1 .1 .0, start .pre .1 .1 .0 .listed-room)
+  counted : length (begin .args .loads .now) ≡ n
+  counted = begin .pre .1 .1 .0 .each ∙ sym (begin .pre .0 .codes-are)
 
-write-blocks-requires : tie.Need-write-blocks-requires
-write-blocks-requires c κs =
-    let group = c .before .before .before .before .before .before .before .before .before .before .before .before .before in
-    let start = group .before .before .before .before .before .before .before .before .before .before .before .before .before in
-    let (listed, (codes, schedules)) = group .group .ensures in (
-      (both-groups (start .pre .0) codes schedules (at-room group) (start .fits .c .fits) (grouped-room group), start .pre .0 .searchable .few),
-      ((listed-sizes codes (start .pre .1 .0 .1) listed, listed-room group), start .pre .1 .1 .1),
+  are : listed ≡ chosen f n
+  are = c .list-shared .ensures .listed ∙ ap (chosen f) counted
+
+  listed-long : length listed ≡ c .list-shared .result
+  listed-long =
+      length-take-le (c .list-shared .result) (c .list-shared .last .1 .0)
+      (omega (arith, c .list-shared .ensures .counted, c .list-shared .kept .1 .0, begin .pre .1 .0 .each, begin .pre .1 .1 .0 .each))
+
+  written : c .before .before .before .before .write-gathered .last .1 .1 .1 .1 .1 .0 ≡ tableBut (begin .args .shape) (begin .args .codes .now) (begin .args .schedules .now) (λ j. among j (drop 0 listed))
+  written =
+      c .before .before .before .before .write-gathered .ensures
+      ∙ sharing-begin (begin .pre .0) (begin .pre .1 .1 .0)
+      ∙ sharing-ext (begin .pre .0) f (λ j. among j (drop 0 listed)) (waiting-begin f n are)
+
+-- the next of them
+module _ (c : tie.In-loop Inv-loop μ-loop) where
+  abbrev made : tie.After-list-shared Inv-loop μ-loop
+  made = c .before .before .before .before .before
+
+  abbrev start : tie.Start Inv-loop μ-loop
+  start = begin made
+
+  abbrev t : ℕ
+  t = c .before .loop .t
+
+  abbrev j : ℕ
+  j = getD (made .list-shared .last .1 .0) t 0
+
+  abbrev waiting : ℕ → ℕ → Bool
+  waiting u i = among i (drop u (listed made))
+
+  below : t < length (listed made)
+  below = omega (arith, listed-long made, c .loop-test .taken)
+
+  same : getD (listed made) t 0 ≡ j
+  same = getD-take (made .list-shared .result) (made .list-shared .last .1 .0) t 0 (c .loop-test .taken)
+
+  j-below : (j < n made) × (f made j ≡ true)
+  j-below = rw (← same) (next-below (f made) (n made) (are made) t below)
+
+  waits : waiting t j ≡ true
+  waits = rw (← same) (next-waits (f made) (n made) (are made) t below)
+
+  facts : (j < n made) × ((n made ≤ room) × ((length (start .args .loads .now) ≡ n made) × (t < length (made .list-shared .last .1 .0))))
+  facts = (
+    j-below .0,
+    (
+      omega (arith, start .pre .0 .codes-are, start .pre .0 .searchable .few),
+      (counted made, omega (arith, made .list-shared .ensures .counted, made .list-shared .kept .1 .0, start .pre .1 .0 .each, start .pre .1 .1 .0 .each, c .loop-test .taken)),
+    ),
+  )
+
+write-shared-requires : tie.Need-write-shared-requires Inv-loop μ-loop
+write-shared-requires c κs =
+    let next = c .before .before .before .before in
+    let h = next .before .loop .inv in
+    let begun = start next in (
+      (facts next .0, (facts next .1 .0, facts next .1 .1 .0)),
+      (
+        h .1 .0 ∙ made next .before .before .before .before .write-gathered .kept .1 .1 .1 .1 .1 .0 ∙ begun .pre .1 .1 .1,
+        (
+          listed-gathered (begun .pre .0) (begun .pre .1 .1 .0) (waiting next (t next)) (j next) (facts next .0) (waits next) (h .0)
+              (ltb-true 1 _ (j-below next .1)),
+          (h .1 .1 .0, h .1 .1 .1 .0),
+        ),
+      ),
     )
 
-returns : tie.Need-returns
+loop-again : tie.Need-loop-again Inv-loop μ-loop
+loop-again c =
+    let called = c .before .before .before .before in
+    let next = called .before .before .before .before .before in
+    let h = next .before .loop .inv in
+    let begun = start next in
+    let listing = are (made next) in (
+      listed-more (begun .pre .0) (begun .pre .1 .1 .0) (waiting next (t next)) (j next) (facts next .0) (waits next) (h .0)
+          (waiting next (t next + 1)) (rw (← same next) (next-done (f (made next)) (n (made next)) listing (t next) (below next)))
+          (λ i ne. next-other (f (made next)) (n (made next)) listing (t next) (below next) i (λ e. ne (e ∙ same next)))
+          (called .write-shared .ensures),
+      (
+        called .write-shared .kept .1 .1 .1 .1 .1 .0 ∙ h .1 .0,
+        (called .write-shared .kept .1 .1 .1 .0 ∙ h .1 .1 .0, (called .write-shared .kept .1 .1 .1 .1 .0 ∙ h .1 .1 .1 .0, omega arith)),
+      ),
+    )
+
+returns-2 : tie.Need-returns-2 Inv-loop μ-loop
+returns-2 c =
+    let h = c .before .loop .inv in
+    let done = c .before .before .before .before .before in
+    sharing-end (begin done .pre .0)
+    (h .0
+    ∙ sharing-ext (begin done .pre .0) _ (λ j. false)
+    (λ j l. waiting-end (f done) (n done) (are done) (c .before .loop .t) j (omega (arith, listed-long done, c .loop-test .left))))
+
+returns : tie.Need-returns Inv-loop μ-loop
 returns c =
-    let wrote = c .before .before in
-    let group = wrote .before .before .before .before .before .before .before .before .before .before .before .before .before .before in
-    let start = group .before .before .before .before .before .before .before .before .before .before .before .before .before in
-    let (listed, (codes, schedules)) = group .group .ensures in
-    none-pending (start .pre .0) codes schedules (wrote .write-blocks .ensures)
+    let done = c .before .before .before in
+    sharing-end (begin done .pre .0)
+    (written done
+    ∙ sharing-ext (begin done .pre .0) _ (λ j. false) (λ j l. waiting-end (f done) (n done) (are done) 0 j (omega (arith, listed-long done))))
+
+list-shared-requires : tie.Need-list-shared-requires Inv-loop μ-loop
+list-shared-requires c κs =
+    let start = c .before .before .before .before .before .before .before .before .before .before .before in
+    let blocks = start .pre .1 .0 in
+    let loads = start .pre .1 .1 .0 in
+    (omega (arith, blocks .few, loads .each), omega (arith, blocks .each, loads .each))
 
 pub write-table-spec : {M : Type 1} → statement M
 write-table-spec =
     tie.close
     (tie.spec
-    group-requires
-    write-blocks-requires
+    Inv-loop
+    μ-loop
+    (λ c κs. let start = c .before .before .before .before .before .before .before in (start .pre .0, (start .pre .1 .0, (start .pre .1 .1 .0, start .pre .1 .1 .1))))
+    list-shared-requires
     (λ c. search needs)
-    (λ c. search needs)
-    (λ c. search needs)
-    (λ c. search needs)
-    (λ c. search needs)
-    returns)
+    (λ c. c .before .before .before .before .before .before .before .write-gathered .kept .1 .1 .1 .1 .1 .0)
+    returns
+    (λ c. (written (c .before .before .before), (refl, (refl, (refl, omega arith)))))
+    (λ c. omega arith)
+    (λ c. omega (arith, facts (c .before)))
+    (λ c. record { fits = omega (arith, facts (c .before)) })
+    (λ c. sym (c .before .before .before .loop .inv .1 .1 .0))
+    (λ c. sym (c .before .before .before .before .loop .inv .1 .1 .1 .0))
+    write-shared-requires
+    (λ c. omega arith)
+    (λ c. omega arith)
+    loop-again
+    (λ c. c .before .before .before .before .before .list-shared .kept .1 .0)
+    (λ c. c .before .loop .inv .1 .0 ∙ c .before .before .before .before .before .before .before .before .before .write-gathered .kept .1 .1 .1 .1 .1 .0)
+    returns-2)
