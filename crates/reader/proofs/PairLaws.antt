@@ -20,11 +20,11 @@ use Rattle.audit.specs.WellFormed.{WellFormed}
 use Rattle.table.specs.Pairs.{Pair, codesOf}
 use Rattle.reader.specs.Pairs.{allSchedules, stored, pairsIn}
 use Rattle.audit.proofs.Lookups.{lookup-range, lookup-found, lookup-absent}
-use Rattle.reader.proofs.Keys.{codes-length, schedules-length, code-at, schedule-at}
+use Rattle.reader.proofs.Cells.{codes-length, schedules-length, code-at, schedule-at}
 use Rattle.reader.proofs.Rising.{InCell, stored-length, stored-in, in-stored, stored-codes, rising-length, rising-mem, rising-codes, rising-strict}
 
 -- the pairs of the cells that hold a code
-abbrev inCells : List ℕ → List Pair
+abbrev pub inCells : List ℕ → List Pair
 inCells words = stored (allCodes words) (allSchedules words)
 
 -- a cell of the table holds code a, or none does
@@ -68,6 +68,14 @@ module _ {p limit : ℕ} {words : List ℕ} (f : WellFormed p limit words) where
             f .own j l (omega (arith, at-i, at-j)),
             ap (ownCell p words) (sym at-i ∙ e ∙ at-j),
           )
+
+  pub cells-different : {q : ℕ} → p ≤ q → Codes q (codesOf (inCells words))
+  cells-different l =
+      record {
+        positive = cells-codes .positive;
+        below = λ i h. omega (arith, cells-codes .below i h);
+        different = cells-codes .different;
+      }
 
   -- ---- how many, and in which order
 
