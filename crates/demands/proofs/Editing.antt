@@ -1,39 +1,37 @@
 -- Put in, take out: past their own refusals both build a valid list, so what is proved of builds holds of them. The pairs of an accepted table are
 -- those that a lookup finds, so the changed list is told by lookups.
-use Prim.Native.Nat.{ℕ, _-_, _<_, _≤_}
+use Prim.Native.Nat.{ℕ, _<_, _≤_}
 use native.Mathlib.Decide.{ℕ-discrete}
 use native.Mathlib.Omega.{arith}
 use mathlib.Core.Bool.{Bool, true, false, cond}
 use mathlib.Core.List.{List, [], _∷_, List·Memᴰ, List·Memᴰ·head, List·Memᴰ·tail, List·Memᴰ·cases-cons}
 use mathlib.Core.Logic.{_↔_, _⊎_, inl, inr, ⊎-elim}
 use mathlib.Core.Path.{_≡_, refl, sym, ap, _∙_}
-use borrow.Author.Tests.{ltb-true, ltb-false, le-ltb, eq-eqb, ne-eqb}
+use borrow.Author.Tests.{ltb-false, lt-ltb, le-ltb, eq-eqb, ne-eqb}
 use lib.Dec.{eqb, ltb, lit≤}
-use lib.ListN.{length, getD, take}
-use lib.Seq.{take-length}
+use lib.ListN.{length, take}
 use Rattle.hash.proofs.Primes.{prime-65537}
-use Rattle.table.specs.Answers.{Answer, given, absent, firstOf, refuse, filled}
+use Rattle.table.specs.Answers.{Answer, given, absent, refuse, filled}
 use Rattle.table.specs.Pairs.{Pair, codesOf, schedulesOf}
 use Rattle.table.specs.Words.{codeCount, total}
 use Rattle.table.specs.TwoLevel.{wordsNeeded}
 use Rattle.table.specs.Lookup.{lookupOf}
-use Rattle.table.proofs.Among.{among-at}
 use Rattle.table.proofs.Refusals.{never-both}
 use Rattle.audit.specs.WellFormed.{WellFormed}
 use Rattle.audit.proofs.Lookups.{lookup-range}
 use Rattle.audit.proofs.WellFormed.{check-exactly}
 use Rattle.reader.specs.Pairs.{pairsIn}
-use Rattle.reader.proofs.PairLaws.{pairs-found, found-pairs}
+use Rattle.reader.proofs.PairLaws.{pairs-codes, pair-schedule, pairs-found, found-pairs}
 use Rattle.builder.specs.Build.{buildOf, builtWords}
 use Rattle.editor.specs.Edit.{without, withPair, present, rebuilt, tableOfPairs, insertOf, removeOf, Inserted, Removed}
 use Rattle.editor.specs.code.Editing.{InRange}
-use Rattle.editor.proofs.Changed.{without-mem, mem-without}
-use Rattle.editor.proofs.Edits.{Indexed, indexed-pairs, index-le, few-pairs, present-is, full-is, with-valid, left-valid}
+use Rattle.editor.proofs.Others.{without-mem, mem-without, without-codes, with-codes}
+use Rattle.editor.proofs.Edits.{left-le, left-found, present-is, full-is, with-few, without-few}
 use Rattle.lists.specs.Valid.{Valid}
 use Rattle.demands.specs.Lists.{Listed, rightAnswer}
 use Rattle.demands.specs.Answered.{readAs}
 use Rattle.demands.specs.Theorems.{Accepted, Rebuilds, MayPutIn, MayTakeOut, Editing}
-use Rattle.demands.proofs.Reading.{mem-listed, listed-mem, pairs-exactly, reading}
+use Rattle.demands.proofs.Reading.{mem-listed, listed-mem, pairs-valid, reading}
 use Rattle.demands.proofs.RightAnswer.{right-cases, right-exactly}
 use Rattle.demands.proofs.BuildingBuild.{build-answer, build-leaves, built-table}
 use Rattle.demands.proofs.BuildingOrder.{order-answer, order-leaves}
@@ -132,32 +130,42 @@ module _ (words : List ℕ) (accept : Accepted words) (code : ℕ) where
   wf : WellFormed 65537 2048 words
   wf = check-exactly 65537 2048 words .0 accept
 
-  abbrev index : ℕ
-  index = firstOf (length (codesOf (pairsIn words))) (λ (j : ℕ). eqb (getD (codesOf (pairsIn words)) j 0) code)
+  -- how many pairs have other codes
+  abbrev left : ℕ
+  left = length (without code (pairsIn words))
 
-  at : Indexed 65537 2048 words (codesOf (pairsIn words)) (schedulesOf (pairsIn words)) (codeCount words) code index
-  at = indexed-pairs code wf
+  without-valid : Valid 65537 2048 (codesOf (without code (pairsIn words))) (schedulesOf (without code (pairsIn words)))
+  without-valid =
+      pairs-valid (without code (pairsIn words)) (without-few wf code) (without-codes code (pairsIn words) (pairs-codes wf))
+      (λ r m. pair-schedule wf (without-mem code (pairsIn words) m .0))
 
   module _ (s : ℕ) (found : lookupOf 65537 2048 words code ≡ given (s ∷ [])) where
     found-range : (1 ≤ code) × (code < 65537)
     found-range = lookup-range 65537 2048 words code (s ∷ []) (lit≤ tt) found
 
     found-present : present words code ≡ true
-    unfolding present
-    found-present =
-        let l = pairs-exactly wf code s .0 found in
-        rw (take-length (codesOf (pairsIn words)))
-        at (among-at code (codesOf (pairsIn words)) (l .index) (length (codesOf (pairsIn words))) (l .in-list) (omega arith) (l .code-there))
-
-    found-index : index < codeCount words
-    found-index = ltb-true index (codeCount words) (sym (present-is at) ∙ found-present)
+    found-present = present-is wf code ∙ lt-ltb left (codeCount words) (omega (arith, left-found wf code s found))
 
     removes : (second : List ℕ) → removeOf 65537 2048 words code (length second) ≡ rebuilt 65537 (without code (pairsIn words)) (length second)
     unfolding removeOf
     removes second =
         rw (le-ltb code 1 (found-range .0), le-ltb 65536 code (omega (arith, found-range)), accept, found-present)
 
-  module _ (schedule : ℕ) (range : InRange 65537 code schedule) (room : index ≡ 2048 → ⊥) where
+  module _ (schedule : ℕ) (range : InRange 65537 code schedule) (room : left ≡ 2048 → ⊥) where
+    with-valid :
+        Valid 65537 2048 (codesOf (withPair code schedule (pairsIn words))) (schedulesOf (withPair code schedule (pairsIn words)))
+    unfolding withPair
+    with-valid =
+        pairs-valid (withPair code schedule (pairsIn words)) (with-few wf code schedule room)
+        (with-codes code schedule (pairsIn words) (range .code-from-one) (range .code-below) (pairs-codes wf))
+        (λ r m.
+        ⊎-elim
+        (λ same.
+        let e : r .schedule ≡ schedule = ap (λ (y : Pair). y .schedule) same in
+        (omega (arith, range .schedule-from-one), omega (arith, range .schedule-to-999)))
+        (λ t. pair-schedule wf (without-mem code (pairsIn words) t .0))
+        (List·Memᴰ·cases-cons m))
+
     inserts :
         (second : List ℕ)
         → insertOf 65537 2048 words code schedule (length second) ≡ rebuilt 65537 (withPair code schedule (pairsIn words)) (length second)
@@ -169,14 +177,14 @@ module _ (words : List ℕ) (accept : Accepted words) (code : ℕ) where
           le-ltb schedule 1 (range .schedule-from-one),
           le-ltb 999 schedule (range .schedule-to-999),
           accept,
-          full-is at,
-          ne-eqb index 2048 room,
+          full-is wf code,
+          ne-eqb left 2048 room,
         )
 
   -- a code that is there, or a table that is not full
-  has-room : (codeCount words < 2048) ⊎ ((s : ℕ) × (lookupOf 65537 2048 words code ≡ given (s ∷ []))) → index ≡ 2048 → ⊥
-  has-room (inl few) e = omega (arith, index-le at)
-  has-room (inr (s, found)) e = omega (arith, found-index s found, few-pairs at)
+  has-room : (codeCount words < 2048) ⊎ ((s : ℕ) × (lookupOf 65537 2048 words code ≡ given (s ∷ []))) → left ≡ 2048 → ⊥
+  has-room (inl few) e = omega (arith, left-le wf code)
+  has-room (inr (s, found)) e = omega (arith, left-found wf code s found, wf .few-codes)
 
 put-in :
     (words : List ℕ) (code schedule : ℕ) (second : List ℕ) (answer : Answer) (second′ : List ℕ) → MayPutIn words code schedule
@@ -191,7 +199,7 @@ put-in words code schedule second answer second′ may done =
       schedule-to-999 = may .schedule-range .1;
     } in
     let room = has-room words (may .accepted) code (may .room) in
-    rebuilds (withPair code schedule (pairsIn words)) (with-valid (at words (may .accepted) code) room schedule range) second _
+    rebuilds (withPair code schedule (pairsIn words)) (with-valid words (may .accepted) code schedule range room) second _
     (inserts words (may .accepted) code schedule range room second)
     (done .answers)
     (done .second-at-exit)
@@ -202,7 +210,7 @@ take-out :
 take-out words code second answer second′ may done =
     let (s, found) = may .there in
     rebuilds (without code (pairsIn words))
-    (left-valid (at words (may .accepted) code) (λ e. omega (arith, found-index words (may .accepted) code s found)))
+    (without-valid words (may .accepted) code)
     second
     _
     (removes words (may .accepted) code s found second)

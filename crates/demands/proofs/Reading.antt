@@ -1,12 +1,13 @@
 -- What is proved of tables from anywhere, for any prime and limit: the pairs read from a well-formed table are a valid list, by rising code, and
 -- are listed exactly where a lookup finds them. A pair stands in the list of pairs where it stands in the lists of codes and schedules.
-use Prim.Native.Nat.{ℕ, zero, suc, _<_, _≤_}
+use Prim.Native.Nat.{ℕ, _<_, _≤_}
 use native.Mathlib.Omega.{arith}
-use mathlib.Core.List.{List, [], _∷_, List·Memᴰ, List·Memᴰ·head, List·Memᴰ·tail}
+use mathlib.Core.List.{List, [], _∷_, List·Memᴰ}
 use mathlib.Core.Logic.{_↔_, _⊎_, inl, inr}
-use mathlib.Core.Path.{_≡_, refl, sym, ap, _∙_}
+use mathlib.Core.Path.{_≡_, ap, _∙_}
 use borrow.Author.Tests.{le-ltb}
-use lib.ListN.{length, getD, length-map}
+use lib.ListN.{length}
+use Rattle.hash.specs.Hash.{Codes}
 use Rattle.table.specs.Answers.{Answer, given, absent, filled}
 use Rattle.table.specs.Words.{codeCount, cellSchedule}
 use Rattle.table.specs.Lookup.{lookupOf}
@@ -18,6 +19,7 @@ use Rattle.audit.proofs.Lookups.{lookup-found, lookup-absent}
 use Rattle.audit.proofs.WellFormed.{check-exactly}
 use Rattle.reader.proofs.PairLaws as Pairs
 use Rattle.lists.specs.Valid.{Valid}
+use Rattle.editor.proofs.Reordered.{codes-long, same-long, pair-at, at-pair}
 use Rattle.demands.specs.Lists.{Listed}
 use Rattle.demands.specs.Theorems.{Reading}
 use Rattle.demands.proofs.RightAnswer.{right-cases}
@@ -26,38 +28,32 @@ use Rattle.demands.proofs.Settle.{lookedAt-eight, settle}
 -- ---- a pair of a list, by index and by membership
 
 pub mem-listed : {xs : List Pair} {r : Pair} → List·Memᴰ r xs → Listed (codesOf xs) (schedulesOf xs) (r .code) (r .schedule)
-mem-listed (List·Memᴰ·head e) =
-    record {
-      index = 0;
-      in-list = omega arith;
-      code-there = ap (λ (x : Pair). x .code) (sym e);
-      schedule-there = ap (λ (x : Pair). x .schedule) (sym e);
-    }
-mem-listed (List·Memᴰ·tail m) =
-    let l = mem-listed m in
-    record {
-      index = suc (l .index);
-      in-list = omega (arith, l .in-list);
-      code-there = l .code-there;
-      schedule-there = l .schedule-there;
-    }
+mem-listed m =
+    let (i, l, code, schedule) = at-pair m in
+    record { index = i; in-list = l; code-there = code; schedule-there = schedule }
 
 pub listed-mem :
     (xs : List Pair) {a s : ℕ} → Listed (codesOf xs) (schedulesOf xs) a s → List·Memᴰ (record { code = a; schedule = s }) xs
-listed-mem xs {a} {s} l = go xs (l .index) (l .in-list) (l .code-there) (l .schedule-there)
-  where
-    go :
-        (xs : List Pair) (i : ℕ) → i < length (codesOf xs) → getD (codesOf xs) i 0 ≡ a → getD (schedulesOf xs) i 0 ≡ s
-        → List·Memᴰ (record { code = a; schedule = s }) xs
-    go [] i l code schedule = absurd (omega arith)
-    go (x ∷ xs) zero l code schedule = List·Memᴰ·head (λ i. record { code = sym code i; schedule = sym schedule i })
-    go (x ∷ xs) (suc i) l code schedule = List·Memᴰ·tail (go xs i (omega arith) code schedule)
+listed-mem xs l = rw (l .code-there, l .schedule-there) at (pair-at xs (l .index) (l .in-list))
+
+-- different codes with schedules in range are a valid list
+pub pairs-valid :
+    {p limit : ℕ} (xs : List Pair) → length (codesOf xs) ≤ limit → Codes p (codesOf xs)
+    → ((r : Pair) → List·Memᴰ r xs → (1 ≤ r .schedule) × (r .schedule ≤ 999)) → Valid p limit (codesOf xs) (schedulesOf xs)
+pairs-valid xs few codes range =
+    record {
+      parallel = same-long xs;
+      few = few;
+      codes-valid = codes;
+      schedules-from-one = λ i l. range _ (pair-at xs i l) .0;
+      schedules-to-999 = λ i l. range _ (pair-at xs i l) .1;
+    }
 
 -- ---- the pairs of a table
 
 module _ {p limit : ℕ} {words : List ℕ} (f : WellFormed p limit words) where
   pub pairs-number : length (codesOf (pairsIn words)) ≡ codeCount words
-  pairs-number = length-map (pairsIn words) (λ (r : Pair). r .code) ∙ Pairs.pairs-length f
+  pairs-number = codes-long (pairsIn words) ∙ Pairs.pairs-length f
 
   pub pairs-exactly :
       (a s : ℕ)
@@ -65,30 +61,15 @@ module _ {p limit : ℕ} {words : List ℕ} (f : WellFormed p limit words) where
   pairs-exactly a s = (λ e. mem-listed (Pairs.found-pairs f e), λ l. Pairs.pairs-found f (listed-mem (pairsIn words) l))
 
   -- so they can be built from again
-  pub pairs-valid : Valid p limit (codesOf (pairsIn words)) (schedulesOf (pairsIn words))
-  pairs-valid =
-      record {
-        parallel =
-            length-map (pairsIn words) (λ (r : Pair). r .schedule) ∙ sym (length-map (pairsIn words) (λ (r : Pair). r .code));
-        few = omega (arith, pairs-number, f .few-codes);
-        codes-valid = Pairs.pairs-codes f;
-        schedules-from-one = λ i l. Pairs.pair-schedule f (at i l) .0;
-        schedules-to-999 = λ i l. Pairs.pair-schedule f (at i l) .1;
-      }
-    where
-      at :
-          (i : ℕ) → i < length (codesOf (pairsIn words))
-          → List·Memᴰ
-          (record { code = getD (codesOf (pairsIn words)) i 0; schedule = getD (schedulesOf (pairsIn words)) i 0 })
-          (pairsIn words)
-      at i l = listed-mem (pairsIn words) (record { index = i; in-list = l; code-there = refl; schedule-there = refl })
+  pub table-valid : Valid p limit (codesOf (pairsIn words)) (schedulesOf (pairsIn words))
+  table-valid = pairs-valid (pairsIn words) (omega (arith, pairs-number, f .few-codes)) (Pairs.pairs-codes f) (λ r. Pairs.pair-schedule f)
 
 -- a code in range that no pair has is absent
 pub found-or-absent :
     {p limit : ℕ} {words : List ℕ} → WellFormed p limit words → (a : ℕ) → 1 ≤ a → a < p
     → ((s : ℕ) × (lookupOf p limit words a ≡ given (s ∷ []))) ⊎ (lookupOf p limit words a ≡ absent)
 found-or-absent {words = words} f a from below =
-    elim (right-cases (codesOf (pairsIn words)) (schedulesOf (pairsIn words)) a (pairs-valid f .parallel)) [
+    elim (right-cases (codesOf (pairsIn words)) (schedulesOf (pairsIn words)) a (table-valid f .parallel)) [
       | inl r ↦ inl (r .schedule, pairs-exactly f a (r .schedule) .1 (r .listed))
       | inr r ↦
           inr

@@ -1,134 +1,153 @@
--- The changed pairs of a table over plain lists. The codes of a table are different, so to leave out the pair of a code is to leave out the
--- element at the code's index; and what is left is a list of codes again, before which the code itself is new.
-use Prim.Native.Nat.{ℕ, zero, suc, _<_}
-use native.Mathlib.Decide.{ℕ-discrete, decLt}
+-- The changed list of a table, and how it is listed. The pairs of the cells stand in another order than by rising code, and so do the changed ones.
+use Prim.Native.Nat.{ℕ, zero, suc, _+_, _*_, _-_, _≤_}
 use native.Mathlib.Omega.{arith}
-use mathlib.Core.List.{List, [], _∷_, List·Memᴰ, List·Memᴰ·head, List·Memᴰ·tail, List·Memᴰ·cases-cons, List·Memᴰ·not-nil, Memᴰ·map, Memᴰ·of-map}
-use mathlib.Core.Logic.{⊎-elim}
+use mathlib.Core.List.{List, [], _∷_, _++_, map, map-append, append-assoc, List·Permᴰ, Permᴰ·append-left}
 use mathlib.Core.Path.{_≡_, refl, sym, ap, _∙_}
-use borrow.Author.Tests.{eq-eqb, ne-eqb, eqb-true, eqb-false, lt-ltb, le-ltb}
-use lib.Dec.{eqb, ltb}
-use lib.ListN.{length, getD}
-use lib.Seq.{take-length}
-use Rattle.hash.specs.Hash.{Codes}
-use Rattle.hash.proofs.Members.{codes-cons, codes-tail, codes-new}
-use Rattle.table.proofs.First.{First}
-use Rattle.table.specs.Pairs.{Pair, codesOf, pairsWhere, among}
-use Rattle.table.proofs.Among.{among-at, among-none}
-use Rattle.editor.specs.Edit.{without, withPair}
-use Rattle.editor.specs.code.Lists.{omit}
+use borrow.Rule.Slice.PartMut.{midOf, putMid, mid-len, same-len-mid}
+use lib.ListN.{length, set, take, drop, length-map, length-set, length-append, length-drop}
+use lib.Seq.{take-at, length-take-le}
+use Rattle.hash.proofs.Orders.{perm-length}
+use Rattle.table.specs.Pairs.{Pair, codesOf}
+use Rattle.table.specs.Words.{codeCount, cellCount}
+use Rattle.audit.specs.Check.{allCodes}
+use Rattle.reader.specs.Pairs.{allSchedules, stored, pairsIn}
+use Rattle.reader.proofs.Rising.{rising-perm}
+use Rattle.search.specs.code.Searchable.{Searchable}
+use Rattle.writer.specs.code.Valid.{ValidBuilt}
+use Rattle.editor.specs.Edit.{without}
+use Rattle.editor.specs.code.Changes.{others, changed, Gatherable, Gathered, Changing, Roomy, Listed, ChangedBuilt}
+use Rattle.editor.specs.declared.changes.Change.{Change}
+use Rattle.editor.proofs.Others.{without-perm}
+use Rattle.editor.proofs.Reordered.{codes-long, schedules-long, same-long, searchable-order, built-order}
 
--- i is the index of a code, or the list's length where it is not among them
-abbrev pub At : ℕ → List ℕ → ℕ → Type 0
-At code codes i = First (length codes) (λ (j : ℕ). eqb (getD codes j 0) code) i
+-- ---- the pairs of a table, by rising code and by rising cell
 
-module _ (code : ℕ) where
-  at-tail : (x : ℕ) (codes : List ℕ) (i : ℕ) → At code (x ∷ codes) (suc i) → At code codes i
-  at-tail x codes i f =
-      record {
-        within = omega (arith, f .within);
-        below = λ j l. f .below (suc j) (omega arith);
-        holds = λ l. f .holds (omega arith);
-      }
+abbrev inCells : List ℕ → List Pair
+inCells words = stored (allCodes words) (allSchedules words)
 
-  -- the first element is it, or is another
-  at-here : (x : ℕ) (codes : List ℕ) → At code (x ∷ codes) 0 → x ≡ code
-  at-here x codes f = eqb-true x code (f .holds (omega arith))
+pairs-perm : (words : List ℕ) → List·Permᴰ (pairsIn words) (inCells words)
+unfolding pairsIn
+pairs-perm words = rising-perm (inCells words)
 
-  at-later : (x : ℕ) (codes : List ℕ) (i : ℕ) → At code (x ∷ codes) (suc i) → x ≡ code → ⊥
-  at-later x codes i f = eqb-false x code (f .below 0 (omega arith))
+changed-perm : (words : List ℕ) (x : Change) → List·Permᴰ (changed x (pairsIn words)) (changed x (inCells words))
+unfolding changed
+changed-perm words x = Permᴰ·append-left (take (x .added) (record { code = x .code; schedule = x .schedule } ∷ [])) (without-perm (x .code) (pairs-perm words))
 
-  -- ---- whether it is among them
+-- how many there are
+pub changed-long : {words : List ℕ} {x : Change} → Changing words x → length (codesOf (changed x (pairsIn words))) ≡ x .added + x .others
+unfolding changed
+changed-long {words} {x} h =
+    let new : List Pair = record { code = x .code; schedule = x .schedule } ∷ [] in
+    codes-long (take (x .added) new ++ without (x .code) (pairsIn words))
+    ∙ length-append (take (x .added) new) (without (x .code) (pairsIn words))
+    ∙ omega (arith, length-take-le (x .added) new (h .at-most-one), h .others-are)
 
-  pub among-index : (codes : List ℕ) (i : ℕ) → At code codes i → among code codes ≡ ltb i (length codes)
-  among-index codes i f =
-      elim (decLt i (length codes)) [
-        | yes l ↦
-            (rw (take-length codes) at (among-at code codes i (length codes) l (omega arith) (eqb-true (getD codes i 0) code (f .holds l))))
-            ∙ sym (lt-ltb i (length codes) l)
-        | no g ↦
-            among-none code codes (λ j l. eqb-false (getD codes j 0) code (f .below j (omega arith)))
-            ∙ sym (le-ltb i (length codes) (omega arith))
-      ]
+-- ---- the first places of a list, after the number of the new pair is stored in the first one, and those of the others gathered after it
 
-  -- ---- the pairs without it
+stored-front : (g : Pair → ℕ) (r : Pair) (n : ℕ) (list : List ℕ) → n ≤ 1 → 1 ≤ length list → take n (set list 0 (g r)) ≡ map g (take n (r ∷ []))
+stored-front g r zero list l some = refl
+stored-front g r (suc zero) [] l some = absurd (omega arith)
+stored-front g r (suc zero) (y ∷ list) l some = refl
+stored-front g r (suc (suc n)) list l some = absurd (omega arith)
 
-  without-here : (r : Pair) (xs : List Pair) → r .code ≡ code → without code (r ∷ xs) ≡ without code xs
-  unfolding without pairsWhere
-  without-here r xs e = rw (eq-eqb (r .code) code e)
+listed-column :
+    (g : Pair → ℕ) (r : Pair) (left : List Pair) (n m : ℕ) (list part rest : List ℕ) → n ≤ 1 → 1 ≤ length list → m ≡ length left
+    → part ≡ map g left → take (n + m) (take n (set list 0 (g r)) ++ (part ++ rest)) ≡ map g (take n (r ∷ []) ++ left)
+listed-column g r left n m list part rest l some size is =
+    let front : List ℕ = take n (set list 0 (g r)) in
+    let long : length (front ++ part) ≡ n + m
+    = length-append front part
+    ∙ omega (arith, length-take-le n (set list 0 (g r)) (omega (arith, length-set list 0 (g r))), ap length is, length-map left g, size) in
+    rw (← append-assoc front part rest, take-at (front ++ part) rest (n + m) long, is, stored-front g r n list l some)
+    (sym (map-append g (take n (r ∷ [])) left))
 
-  without-later : (r : Pair) (xs : List Pair) → (r .code ≡ code → ⊥) → without code (r ∷ xs) ≡ r ∷ without code xs
-  unfolding without pairsWhere
-  without-later r xs ne = rw (ne-eqb (r .code) code ne)
+-- ---- the parts of the words and of the lists
 
-  without-none : (xs : List Pair) → (List·Memᴰ code (codesOf xs) → ⊥) → without code xs ≡ xs
-  unfolding without pairsWhere
-  without-none [] none = refl
-  without-none (r ∷ xs) none =
-      without-later r xs (λ e. none (List·Memᴰ·head (sym e)))
-      ∙ ap (λ (s : List Pair). r ∷ s) (without-none xs (λ m. none (List·Memᴰ·tail m)))
+-- the places of a list that the others are gathered into, and the list with a part in their place
+module _ (x : Change) (list : List ℕ) (first : ℕ) where
+  abbrev places : List ℕ
+  places = midOf (x .added) (x .added + x .others - x .added) (set list 0 first)
 
-  -- of different codes, those but the one at its index
-  pub without-at : {p : ℕ} (xs : List Pair) (i : ℕ) → Codes p (codesOf xs) → At code (codesOf xs) i → without code xs ≡ omit i xs
-  unfolding without pairsWhere omit
-  without-at [] i c f = refl
-  without-at (r ∷ xs) zero c f =
-      let e = at-here (r .code) (codesOf xs) f in
-      without-here r xs e ∙ without-none xs (rw e at (codes-new c))
-  without-at (r ∷ xs) (suc i) c f =
-      without-later r xs (at-later (r .code) (codesOf xs) i f)
-      ∙ ap (λ (s : List Pair). r ∷ s) (without-at xs i (codes-tail c) (at-tail (r .code) (codesOf xs) i f))
+  abbrev with-part : List ℕ → List ℕ
+  with-part part = putMid (x .added) (x .added + x .others - x .added) (set list 0 first) part
 
-  -- ---- what is left
+  places-long : x .added + x .others ≤ length list → length places ≡ x .others
+  places-long room =
+      mid-len (x .added) (x .added + x .others) (set list 0 first) (omega (arith, length-set list 0 first)) ∙ omega arith
 
-  pub without-mem : {r : Pair} (xs : List Pair) → List·Memᴰ r (without code xs) → List·Memᴰ r xs × (r .code ≡ code → ⊥)
-  unfolding without pairsWhere
-  without-mem [] m = absurd (List·Memᴰ·not-nil m)
-  without-mem {r} (x ∷ xs) m =
-      elim (ℕ-discrete (x .code) code) [
-        | yes e ↦ let (n, other) = without-mem xs (rw (without-here x xs e) at m) in (List·Memᴰ·tail n, other)
-        | no ne ↦
-            ⊎-elim
-            (λ same. (List·Memᴰ·head same, λ e. ne (ap (λ (y : Pair). y .code) (sym same) ∙ e)))
-            (λ t. let (n, other) = without-mem xs t in (List·Memᴰ·tail n, other))
-            (List·Memᴰ·cases-cons (rw (without-later x xs ne) at m))
-      ]
+  part-kept : (part : List ℕ) → length part ≡ length places → length (with-part part) ≡ length list
+  part-kept part e = same-len-mid (x .added) (x .added + x .others - x .added) (set list 0 first) part e ∙ length-set list 0 first
 
-  pub mem-without : {r : Pair} (xs : List Pair) → List·Memᴰ r xs → (r .code ≡ code → ⊥) → List·Memᴰ r (without code xs)
-  unfolding without pairsWhere
-  mem-without [] m other = absurd (List·Memᴰ·not-nil m)
-  mem-without {r} (x ∷ xs) m other =
-      ⊎-elim
-      (λ same.
-      let e : r .code ≡ x .code = ap (λ (y : Pair). y .code) same in
-      rw (without-later x xs (λ here. other (e ∙ here))) (List·Memᴰ·head same))
-      (λ t.
-      elim (ℕ-discrete (x .code) code) [
-        | yes e ↦ rw (without-here x xs e) (mem-without xs t other)
-        | no ne ↦ rw (without-later x xs ne) (List·Memᴰ·tail (mem-without xs t other))
-      ])
-      (List·Memᴰ·cases-cons m)
+module _ (words : List ℕ) (n c : ℕ) (codes-are : n ≡ codeCount words) (cells-are : c ≡ cellCount words) where
+  abbrev start : ℕ
+  start = 3 + 2 * n
 
-  -- a code of what is left is a code of the list, and another
-  without-code : {a : ℕ} (xs : List Pair) → List·Memᴰ a (codesOf (without code xs)) → List·Memᴰ a (codesOf xs) × (a ≡ code → ⊥)
-  without-code {a} xs m =
-      let (r, n, same) = Memᴰ·of-map (λ (x : Pair). x .code) (without code xs) m in
-      let (there, other) = without-mem xs n in
-      (rw same at (Memᴰ·map (λ (x : Pair). x .code) there), λ e. other (same ∙ e))
+  abbrev cells : List ℕ
+  cells = take (start + c - start) (drop start words)
 
-  pub without-codes : {p : ℕ} (xs : List Pair) → Codes p (codesOf xs) → Codes p (codesOf (without code xs))
-  unfolding without pairsWhere
-  without-codes [] c = c
-  without-codes (x ∷ xs) c =
-      let rest = without-codes xs (codes-tail c) in
-      elim (ℕ-discrete (x .code) code) [
-        | yes e ↦ rw (without-here x xs e) rest
-        | no ne ↦
-            rw (without-later x xs ne)
-            (codes-cons (c .positive 0 (omega arith)) (c .below 0 (omega arith)) (λ m. codes-new c (without-code xs m .0)) rest)
-      ]
+  abbrev held : List ℕ
+  held = take (start + c + c - (start + c)) (drop (start + c) words)
 
-  pub with-codes :
-      {p : ℕ} (schedule : ℕ) (xs : List Pair) → 0 < code → code < p → Codes p (codesOf xs) → Codes p (codesOf (withPair code schedule xs))
-  unfolding withPair
-  with-codes schedule xs pos below c = codes-cons pos below (λ m. without-code xs m .1 refl) (without-codes xs c)
+  cells-are-all : cells ≡ allCodes words
+  cells-are-all = let e : start + c - start ≡ cellCount words = omega arith in rw (e, codes-are)
+
+  held-are-all : held ≡ allSchedules words
+  held-are-all = let e : start + c + c - (start + c) ≡ cellCount words = omega arith in rw (e, codes-are, cells-are)
+
+  module _ {x : Change} (h : Changing words x) {codes schedules : List ℕ} (r : Roomy x codes schedules) where
+    others-long : x .others ≡ length (others (x .code) (allCodes words) (allSchedules words))
+    unfolding others
+    others-long = h .others-are ∙ perm-length (without-perm (x .code) (pairs-perm words))
+
+    pub gatherable : Gatherable (x .code) cells held (places x codes (x .code)) (places x schedules (x .schedule))
+    gatherable =
+        rw (cells-are-all, held-are-all)
+        (record {
+          same =
+              length-take-le (cellCount words) (drop (3 + 2 * codeCount words + cellCount words) words) (rw length-drop (omega (arith, h .whole)))
+              ∙ sym (length-take-le (cellCount words) (drop (3 + 2 * codeCount words) words) (rw length-drop (omega (arith, h .whole))));
+          codes-long = places-long x codes (x .code) (r .codes-long) ∙ others-long;
+          schedules-long = places-long x schedules (x .schedule) (omega (arith, r .codes-long, r .same)) ∙ others-long;
+        })
+
+    module _ {part parts : List ℕ} (g : Gathered (others (x .code) cells held) part parts) where
+      pub listed-kept :
+          (length (with-part x codes (x .code) part) ≡ length codes) × (length (with-part x schedules (x .schedule) parts) ≡ length schedules)
+      listed-kept =
+          let left : List Pair = others (x .code) cells held in (
+            part-kept x codes (x .code) part (ap length (g .codes-are) ∙ codes-long left ∙ sym (gatherable .codes-long)),
+            part-kept x schedules (x .schedule) parts (ap length (g .schedules-are) ∙ schedules-long left ∙ sym (gatherable .schedules-long)),
+          )
+
+      pub listed : Listed words x (with-part x codes (x .code) part) (with-part x schedules (x .schedule) parts)
+      unfolding changed others
+      listed =
+          let g = rw (cells-are-all, held-are-all) at g in
+          let new : Pair = record { code = x .code; schedule = x .schedule } in
+          record {
+            codes-are =
+                listed-column (λ (y : Pair). y .code) new _ (x .added) (x .others) codes _ _ (h .at-most-one) (r .some) others-long (g .codes-are);
+            schedules-are =
+                listed-column (λ (y : Pair). y .schedule) new _ (x .added) (x .others) schedules _ _ (h .at-most-one)
+                (omega (arith, r .some, r .same))
+                others-long
+                (g .schedules-are);
+          }
+
+-- ---- the table of the changed list
+
+module _
+    {p : ℕ} (words : List ℕ) (x : Change) (codes schedules : List ℕ) (s : Searchable p (codesOf (changed x (pairsIn words))))
+    (l : Listed words x codes schedules)
+  where
+    pub listed-searchable : Searchable p (take (x .added + x .others) codes)
+    listed-searchable = rw (l .codes-are) (searchable-order (changed-perm words x) s)
+
+    pub listed-same : length (take (x .added + x .others) schedules) ≡ length (take (x .added + x .others) codes)
+    listed-same = rw (l .codes-are, l .schedules-are) (same-long (changed x (inCells words)))
+
+    pub listed-built :
+        {second second′ : List ℕ} {total : ℕ}
+        → ValidBuilt p (take (x .added + x .others) codes) (take (x .added + x .others) schedules) second total second′
+        → ChangedBuilt p words x second total second′
+    listed-built b = built-order (changed-perm words x) s (rw (l .codes-are, l .schedules-are) at b)

@@ -1,60 +1,40 @@
--- An edit of a well-formed table, over plain lists. The code's index tells whether the table has it and which pairs are left; the changed pairs
--- can be built from: they are different codes in range with schedules in range, and not too many, since the code of an insert is in the old
--- table or the old table is not full.
-use Prim.Native.Nat.{ℕ, suc, _+_, _-_, _<_, _≤_}
+-- An edit of a well-formed table. How many pairs have other codes tells whether the table has the code, and so of 53 and 55; the changed list can be
+-- built from: its codes are different and in range, and not too many.
+use Prim.Native.Nat.{ℕ, suc, _<_, _≤_}
 use native.Mathlib.Decide.{decLt}
 use native.Mathlib.Omega.{arith}
-use mathlib.Core.Bool.{not, cond, _&&_}
-use mathlib.Core.List.{List, _∷_, map, List·Memᴰ, List·Memᴰ·cases-cons, Memᴰ·of-map}
+use mathlib.Core.Bool.{true, false, not, _&&_, or-true}
+use mathlib.Core.List.{List, [], _∷_, List·Memᴰ, List·Memᴰ·cases-cons, List·Memᴰ·not-nil, Memᴰ·map, Memᴰ·of-map}
 use mathlib.Core.Logic.{⊎-elim}
 use mathlib.Core.Path.{_≡_, refl, sym, ap, _∙_}
-use borrow.Author.Tests.{lt-ltb, le-ltb, eq-eqb, ne-eqb}
+use denote.Enum.Declared.{tagOf}
+use types.Run.{OneOf, miss}
+use borrow.Author.Tests.{lt-ltb, le-ltb, eq-eqb, ne-eqb, ltb-true, ltb-false}
 use lib.Dec.{eqb, ltb}
-use lib.ListN.{length, getD, take, length-map}
-use lib.Seq.{take-at, take-length}
-use Rattle.hash.specs.Hash.{Codes}
+use lib.ListN.{length}
+use Rattle.hash.specs.Theorems.{Prime}
 use Rattle.hash.proofs.Members.{mem-at}
-use Rattle.table.specs.Answers.{Answer, refused, firstOf, over}
+use Rattle.table.specs.Answers.{Answer, given, refused}
+use Rattle.table.specs.Found.{foundOf}
+use Rattle.table.specs.Limits.{room}
+use Rattle.table.specs.Lookup.{lookupOf}
+use Rattle.table.specs.Pairs.{Pair, codesOf, schedulesOf, among}
 use Rattle.table.specs.Words.{codeCount}
-use Rattle.table.specs.TwoLevel.{tableOf}
-use Rattle.table.proofs.First.{first-is}
+use Rattle.table.specs.TwoLevel.{wordsNeeded}
+use Rattle.table.specs.declared.lookup.Found.{Found}
+use Rattle.table.specs.declared.lookup.Found.the-variants.{Schedule, Absent, CodeOutOfRange, TooFewWords, BadSizes, BadBlock}
+use Rattle.table.proofs.Among.{among-none}
+use Rattle.table.proofs.Refusals.{never-both}
+use Rattle.table.proofs.lookup.Found.{the-type}
 use Rattle.audit.specs.WellFormed.{WellFormed}
-use Rattle.table.specs.Pairs.{Pair, codesOf, schedulesOf}
 use Rattle.reader.specs.Pairs.{pairsIn}
-use Rattle.reader.specs.code.Writing.{PairsWritten}
-use Rattle.reader.proofs.PairLaws.{pairs-length, pairs-codes, pair-schedule}
-use Rattle.lists.specs.Valid.{Valid}
-use Rattle.editor.specs.Edit.{without, withPair, present, rebuilt, tableOfPairs}
-use Rattle.editor.specs.code.Editing.{Outcome, InRange, fromTotal, fromFull, fromThere, Rebuilding, PutIn, TakenOut}
-use Rattle.editor.specs.code.Lists.{omit}
-use Rattle.editor.proofs.Omitted.{omit-length, omit-none, omit-map, omit-take}
-use Rattle.editor.proofs.Changed.{At, among-index, without-at, without-mem, without-codes, with-codes}
-
--- ---- what can be built from
-
-codes-long : (xs : List Pair) → length (codesOf xs) ≡ length xs
-codes-long xs = length-map xs (λ (r : Pair). r .code)
-
-schedules-long : (xs : List Pair) → length (schedulesOf xs) ≡ length xs
-schedules-long xs = length-map xs (λ (r : Pair). r .schedule)
-
-pairs-valid :
-    {p limit : ℕ} (xs : List Pair) → length xs ≤ limit → Codes p (codesOf xs)
-    → ((r : Pair) → List·Memᴰ r xs → (1 ≤ r .schedule) × (r .schedule ≤ 999)) → Valid p limit (codesOf xs) (schedulesOf xs)
-pairs-valid xs few c range =
-    record {
-      parallel = schedules-long xs ∙ sym (codes-long xs);
-      few = omega (arith, codes-long xs);
-      codes-valid = c;
-      schedules-from-one = λ i l. in-range i l .0;
-      schedules-to-999 = λ i l. in-range i l .1;
-    }
-  where
-    in-range : (i : ℕ) → i < length (codesOf xs) → (1 ≤ getD (schedulesOf xs) i 0) × (getD (schedulesOf xs) i 0 ≤ 999)
-    in-range i l =
-        let here = mem-at (schedulesOf xs) i (omega (arith, codes-long xs, schedules-long xs)) in
-        let (r, m, same) = Memᴰ·of-map (λ (x : Pair). x .schedule) xs here in
-        rw same at (range r m)
+use Rattle.reader.proofs.PairLaws.{pairs-length, pairs-codes, pairs-found, found-pairs}
+use Rattle.search.specs.code.Searchable.{Searchable}
+use Rattle.writer.specs.code.Valid.{ValidBuilt}
+use Rattle.editor.specs.Edit.{without, withPair, present, rebuilt}
+use Rattle.editor.specs.code.Editing.{Outcome, InRange, Rebuilding, fromFull, PutIn, fromThere, TakenOut}
+use Rattle.editor.proofs.Others.{without-le, without-ge, among-is, without-codes, with-codes}
+use Rattle.editor.proofs.Reordered.{codes-long}
 
 -- ---- the answers
 
@@ -64,213 +44,121 @@ pub refusal :
     → Outcome expected table second (refused number value) second
 refusal number value e = record { answers = sym e; second-at-exit = rw e }
 
--- what is built of two lists is built of the pairs that they hold
-rebuilt-outcome :
-    (p lent : ℕ) (xs : List Pair) {codes schedules second second′ : List ℕ} {expected answer : Answer} → codes ≡ codesOf xs
-    → schedules ≡ schedulesOf xs → expected ≡ rebuilt p xs lent
-    → Outcome (fromTotal p codes lent) (tableOf p codes schedules) second answer second′
-    → Outcome expected (tableOfPairs p xs) second answer second′
-unfolding fromTotal rebuilt
-rebuilt-outcome p lent xs c s e o = rw e (rw (c, s) at o)
+-- 54: the test of 6, by another number
+module _ {p : ℕ} (xs : List Pair) {second second′ : List ℕ} {total : ℕ} (b : ValidBuilt p (codesOf xs) (schedulesOf xs) second total second′) where
+  pub rebuilt-short : length second < total → Rebuilding p xs second (refused 54 total) second′
+  unfolding rebuilt
+  rebuilt-short l =
+      let short = lt-ltb (length second) (wordsNeeded p (codesOf xs)) (omega (arith, b .totals)) in
+      record { answers = rw (short, b .totals); second-at-exit = rw short (rw short at (b .words-at-exit)) }
 
--- ---- a well-formed table whose n pairs two lists begin with, and the index i of a code among them, n where the table does not have it
+  pub rebuilt-whole : total ≤ length second → Rebuilding p xs second (given (total ∷ [])) second′
+  unfolding rebuilt
+  rebuilt-whole l =
+      let enough = le-ltb (length second) (wordsNeeded p (codesOf xs)) (omega (arith, b .totals)) in
+      record { answers = rw (enough, b .totals); second-at-exit = rw enough (rw enough at (b .words-at-exit)) }
 
-pub record Indexed (p limit : ℕ) (words codes schedules : List ℕ) (n code i : ℕ) : Type 0 where
-  pub accepted : WellFormed p limit words
-  pub count : n ≡ codeCount words
-  pub codes-front : take n codes ≡ codesOf (pairsIn words)
-  pub schedules-front : take n schedules ≡ schedulesOf (pairsIn words)
-  pub index : At code (codesOf (pairsIn words)) i
+-- ---- whether the code is there
 
--- a list begins with what is written over it
-written-front :
-    {p limit : ℕ} {words : List ℕ} → WellFormed p limit words → (n : ℕ) → n ≡ codeCount words → (g : Pair → ℕ) (list old : List ℕ)
-    → list ≡ over (map g (pairsIn words)) old → take n list ≡ map g (pairsIn words)
-written-front {words = words} f n count g list old e =
-    rw e (take-at (map g (pairsIn words)) _ n (length-map (pairsIn words) g ∙ pairs-length f ∙ sym count))
+-- every case of a lookup's answer but the first
+pub not-found : (r : Found) → OneOf (1 ∷ 2 ∷ 3 ∷ 4 ∷ 5 ∷ []) (tagOf the-type r) → (s : ℕ) → foundOf r ≡ given (s ∷ []) → ⊥
+not-found (Schedule s) k t e = absurd (miss (1 ∷ 2 ∷ 3 ∷ 4 ∷ 5 ∷ []) 0 tt k)
+not-found Absent k t e = let z : _≡_ {A = ℕ} 0 1 = cc in absurd (omega arith)
+not-found CodeOutOfRange k t e = never-both refl e
+not-found TooFewWords k t e = never-both refl e
+not-found BadSizes k t e = never-both refl e
+not-found BadBlock k t e = never-both refl e
 
-pub indexed :
-    {p limit : ℕ} {words codes schedules codes₀ schedules₀ : List ℕ} (n code i : ℕ) → WellFormed p limit words → n ≡ codeCount words
-    → PairsWritten words codes₀ schedules₀ codes schedules → i ≡ firstOf (length (take n codes)) (λ (j : ℕ). eqb (getD (take n codes) j 0) code)
-    → Indexed p limit words codes schedules n code i
-indexed {words = words} {codes} {schedules} n code i f count w e =
-    let front : take n codes ≡ codesOf (pairsIn words) = written-front f n count (λ (r : Pair). r .code) codes _ (w .codes-at-exit) in
-    record {
-      accepted = f;
-      count = count;
-      codes-front = front;
-      schedules-front = written-front f n count (λ (r : Pair). r .schedule) schedules _ (w .schedules-at-exit);
-      index = rw (e, front) (first-is (length (codesOf (pairsIn words))) (λ (j : ℕ). eqb (getD (codesOf (pairsIn words)) j 0) code));
-    }
+mem-among : {a : ℕ} (s : List ℕ) → List·Memᴰ a s → among a s ≡ true
+unfolding among
+mem-among [] m = absurd (List·Memᴰ·not-nil m)
+mem-among {a} (x ∷ s) m = ⊎-elim (λ e. rw (eq-eqb a x e)) (λ t. rw (mem-among s t) (or-true (eqb a x))) (List·Memᴰ·cases-cons m)
 
--- the pairs' own lists
-pub indexed-pairs :
-    {p limit : ℕ} {words : List ℕ} (code : ℕ) → WellFormed p limit words
-    → let codes = codesOf (pairsIn words) in
-    Indexed p limit words codes (schedulesOf (pairsIn words)) (codeCount words) code
-    (firstOf (length codes) (λ (j : ℕ). eqb (getD codes j 0) code))
-indexed-pairs {words = words} code f =
-    let codes : List ℕ = codesOf (pairsIn words) in
-    record {
-      accepted = f;
-      count = refl;
-      codes-front = take-all codes (codeCount words) (codes-long (pairsIn words) ∙ pairs-length f);
-      schedules-front = take-all (schedulesOf (pairsIn words)) (codeCount words) (schedules-long (pairsIn words) ∙ pairs-length f);
-      index = first-is (length codes) (λ (j : ℕ). eqb (getD codes j 0) code);
-    }
-  where
-    take-all : (list : List ℕ) (n : ℕ) → length list ≡ n → take n list ≡ list
-    take-all list n e = ap (λ (m : ℕ). take m list) (sym e) ∙ take-length list
+module _ {p limit : ℕ} {words : List ℕ} (f : WellFormed p limit words) (code : ℕ) where
+  -- how many pairs have other codes
+  abbrev left : ℕ
+  left = length (without code (pairsIn words))
 
-module _ {p limit : ℕ} {words codes schedules : List ℕ} {n code i : ℕ} (x : Indexed p limit words codes schedules n code i) where
-  pairs-long : length (pairsIn words) ≡ n
-  pairs-long = pairs-length (x .accepted) ∙ sym (x .count)
+  pub left-le : left ≤ codeCount words
+  left-le = omega (arith, without-le code (pairsIn words), pairs-length f)
 
-  pub few-pairs : n ≤ limit
-  few-pairs = omega (arith, x .accepted .few-codes, x .count)
+  left-ge : codeCount words ≤ suc left
+  left-ge = omega (arith, without-ge code (pairsIn words) (pairs-codes f), pairs-length f)
 
-  pub index-le : i ≤ n
-  index-le = omega (arith, x .index .within, codes-long (pairsIn words), pairs-long)
-
-  pub present-is : present words code ≡ ltb i n
+  pub present-is : present words code ≡ ltb left (codeCount words)
   unfolding present
-  present-is = among-index code (codesOf (pairsIn words)) i (x .index) ∙ ap (ltb i) (codes-long (pairsIn words) ∙ pairs-long)
+  present-is = among-is code (pairsIn words) ∙ ap (ltb left) (pairs-length f)
 
-  -- ---- which pairs are left, and how many
+  pub left-found : (s : ℕ) → lookupOf p limit words code ≡ given (s ∷ []) → suc left ≡ codeCount words
+  unfolding present
+  left-found s e =
+      let there : among code (codesOf (pairsIn words)) ≡ true
+      = mem-among (codesOf (pairsIn words)) (Memᴰ·map (λ (x : Pair). x .code) (found-pairs f {r = record { code = code; schedule = s }} e)) in
+      omega (arith, left-ge, ltb-true left (codeCount words) (sym present-is ∙ there))
 
-  left-is : without code (pairsIn words) ≡ omit i (pairsIn words)
-  left-is = without-at code (pairsIn words) i (pairs-codes (x .accepted)) (x .index)
-
-  left-list : (g : Pair → ℕ) → omit i (map g (pairsIn words)) ≡ map g (without code (pairsIn words))
-  left-list g = sym (omit-map g (pairsIn words) i) ∙ ap (map g) (sym left-is)
-
-  left-fewer : i < n → suc (length (without code (pairsIn words))) ≡ n
-  left-fewer l = rw left-is (omit-length (pairsIn words) i (omega (arith, pairs-long)) ∙ pairs-long)
-
-  left-all : n ≤ i → length (without code (pairsIn words)) ≡ n
-  left-all l = rw (left-is, omit-none (pairsIn words) i (omega (arith, pairs-long))) pairs-long
+  pub left-absent : ((s : ℕ) → lookupOf p limit words code ≡ given (s ∷ []) → ⊥) → left ≡ codeCount words
+  unfolding present
+  left-absent none =
+      let gone : among code (codesOf (pairsIn words)) ≡ false
+      = among-none code (codesOf (pairsIn words))
+      (λ i l e.
+      let (r, m, same) = Memᴰ·of-map (λ (x : Pair). x .code) (pairsIn words) (mem-at (codesOf (pairsIn words)) i l) in
+      none (r .schedule) (ap (lookupOf p limit words) (sym (same ∙ e)) ∙ pairs-found f m)) in
+      omega (arith, left-le, ltb-false left (codeCount words) (sym present-is ∙ gone))
 
   -- ---- put in
 
   -- 53: the code is new and the table is full
-  pub full-is : not (present words code) && eqb (codeCount words) limit ≡ eqb i limit
+  pub full-is : not (present words code) && eqb (codeCount words) limit ≡ eqb left limit
   full-is =
-      elim (decLt i n) [
-        | yes l ↦ rw (present-is, lt-ltb i n l, ne-eqb i limit (λ e. omega (arith, few-pairs)))
+      elim (decLt left (codeCount words)) [
+        | yes l ↦ rw (present-is, lt-ltb left (codeCount words) l, ne-eqb left limit (λ e. omega (arith, f .few-codes)))
         | no g ↦
-            let e : codeCount words ≡ i = omega (arith, index-le, x .count) in
-            rw (present-is, le-ltb i n (omega arith), e)
+            let e : codeCount words ≡ left = omega (arith, left-le) in
+            rw (present-is, le-ltb left (codeCount words) (omega arith), e)
       ]
 
-  pub full : (schedule lent : ℕ) → i ≡ limit → fromFull p limit words code schedule lent ≡ refused 53 0
+  pub full : (schedule lent : ℕ) → left ≡ limit → fromFull p limit words code schedule lent ≡ refused 53 0
   unfolding fromFull
-  full schedule lent e = rw (full-is, eq-eqb i limit e)
+  full schedule lent e = rw (full-is, eq-eqb left limit e)
 
-  -- how many pairs there are with the code, old or new
-  count-is : cond (eqb i n) (n + 1) n ≡ suc (length (without code (pairsIn words)))
-  count-is =
-      elim (decLt i n) [
-        | yes l ↦ rw (ne-eqb i n (λ e. omega arith)) (sym (left-fewer l))
-        | no g ↦ rw (eq-eqb i n (omega (arith, index-le))) (omega (arith, left-all (omega arith)))
-      ]
+  pub put-outcome :
+      (left ≡ limit → ⊥) → (schedule : ℕ) {second second′ : List ℕ} {answer : Answer}
+      → Rebuilding p (withPair code schedule (pairsIn words)) second answer second′
+      → PutIn p limit words code schedule second answer second′
+  unfolding fromFull
+  put-outcome room schedule o = rw (full-is, ne-eqb left limit room) o
 
-  put-list :
-      (g : Pair → ℕ) (a : ℕ) (list : List ℕ) → take n list ≡ map g (pairsIn words)
-      → take (cond (eqb i n) (n + 1) n) (a ∷ omit i list) ≡ a ∷ map g (without code (pairsIn words))
-  put-list g a list front =
-      let long : length (map g (pairsIn words)) ≡ n = length-map (pairsIn words) g ∙ pairs-long in
-      let left : take (length (omit i (map g (pairsIn words)))) (omit i list) ≡ omit i (map g (pairsIn words))
-      = omit-take (map g (pairsIn words)) list i (rw long front) (omega (arith, index-le)) in
-      let size : length (without code (pairsIn words)) ≡ length (map g (without code (pairsIn words)))
-      = sym (length-map (without code (pairsIn words)) g) in
-      rw count-is (ap (λ (r : List ℕ). a ∷ r) (rw size (rw (left-list g) at left)))
+  pub with-few : (schedule : ℕ) → (left ≡ limit → ⊥) → length (codesOf (withPair code schedule (pairsIn words))) ≤ limit
+  unfolding withPair
+  with-few schedule room = omega (arith, codes-long (withPair code schedule (pairsIn words)), left-le, f .few-codes)
 
-  module _ (room : i ≡ limit → ⊥) where
-    pub room-left : i < limit
-    room-left = omega (arith, few-pairs, index-le)
-
-    few-with : suc (length (without code (pairsIn words))) ≤ limit
-    few-with =
-        elim (decLt i n) [
-          | yes l ↦ omega (arith, few-pairs, left-fewer l)
-          | no g ↦ omega (arith, room-left, index-le, left-all (omega arith))
-        ]
-
-    -- the pairs with the code put in
-    pub with-valid :
-        (schedule : ℕ) → InRange p code schedule
-        → Valid p limit (codesOf (withPair code schedule (pairsIn words))) (schedulesOf (withPair code schedule (pairsIn words)))
-    unfolding withPair
-    with-valid schedule range =
-        pairs-valid (withPair code schedule (pairsIn words)) few-with
-        (with-codes code schedule (pairsIn words) (range .code-from-one) (range .code-below) (pairs-codes (x .accepted)))
-        (λ r h.
-        ⊎-elim
-        (λ same.
-        let e : r .schedule ≡ schedule = ap (λ (y : Pair). y .schedule) same in
-        (omega (arith, range .schedule-from-one), omega (arith, range .schedule-to-999)))
-        (λ t. pair-schedule (x .accepted) (without-mem code (pairsIn words) t .0))
-        (List·Memᴰ·cases-cons h))
-
-    -- the first m elements of the lists after the pair is put first
-    module _ (schedule m : ℕ) (codes′ schedules′ : List ℕ) (size : m ≡ cond (eqb i n) (n + 1) n)
-        (put-code : codes′ ≡ code ∷ omit i codes) (put-schedule : schedules′ ≡ schedule ∷ omit i schedules)
-      where
-        pub put-few : m ≤ limit
-        put-few = rw (size, count-is) few-with
-
-        put-codes : take m codes′ ≡ codesOf (withPair code schedule (pairsIn words))
-        unfolding withPair
-        put-codes = rw (size, put-code) (put-list (λ (r : Pair). r .code) code codes (x .codes-front))
-
-        put-schedules : take m schedules′ ≡ schedulesOf (withPair code schedule (pairsIn words))
-        unfolding withPair
-        put-schedules = rw (size, put-schedule) (put-list (λ (r : Pair). r .schedule) schedule schedules (x .schedules-front))
-
-        pub put-valid : InRange p code schedule → Valid p limit (take m codes′) (take m schedules′)
-        put-valid range = rw (put-codes, put-schedules) (with-valid schedule range)
-
-        pub put-outcome :
-            {second second′ : List ℕ} {answer : Answer} → Rebuilding p (take m codes′) (take m schedules′) second answer second′
-            → PutIn p limit words code schedule second answer second′
-        unfolding fromFull
-        put-outcome {second} =
-            rebuilt-outcome p (length second) (withPair code schedule (pairsIn words)) put-codes put-schedules (rw (full-is, ne-eqb i limit room))
+  pub with-searchable :
+      Prime p → limit ≤ room → (left ≡ limit → ⊥) → (schedule : ℕ) → InRange p code schedule
+      → Searchable p (codesOf (withPair code schedule (pairsIn words)))
+  with-searchable prime small room schedule range =
+      record {
+        prime = prime;
+        valid = with-codes code schedule (pairsIn words) (range .code-from-one) (range .code-below) (pairs-codes f);
+        few = omega (arith, with-few schedule room);
+      }
 
   -- ---- take out
 
   -- 55
-  pub gone : (lent : ℕ) → i ≡ n → fromThere p words code lent ≡ refused 55 0
+  pub gone : (lent : ℕ) → left ≡ codeCount words → fromThere p words code lent ≡ refused 55 0
   unfolding fromThere
-  gone lent e = rw (present-is, le-ltb i n (omega arith))
+  gone lent e = rw (present-is, le-ltb left (codeCount words) (omega arith))
 
-  module _ (there : i ≡ n → ⊥) where
-    pub index-lt : i < n
-    index-lt = omega (arith, index-le)
+  pub out-outcome :
+      (left ≡ codeCount words → ⊥) → {second second′ : List ℕ} {answer : Answer}
+      → Rebuilding p (without code (pairsIn words)) second answer second′ → TakenOut p words code second answer second′
+  unfolding fromThere
+  out-outcome there o = rw (present-is, lt-ltb left (codeCount words) (omega (arith, left-le))) o
 
-    -- the pairs without the code
-    pub left-valid : Valid p limit (codesOf (without code (pairsIn words))) (schedulesOf (without code (pairsIn words)))
-    left-valid =
-        pairs-valid (without code (pairsIn words)) (omega (arith, few-pairs, left-fewer index-lt))
-        (without-codes code (pairsIn words) (pairs-codes (x .accepted)))
-        (λ r h. pair-schedule (x .accepted) (without-mem code (pairsIn words) h .0))
+  pub without-few : length (codesOf (without code (pairsIn words))) ≤ limit
+  without-few = omega (arith, codes-long (without code (pairsIn words)), left-le, f .few-codes)
 
-    -- the first n - 1 elements of the lists after the pair is left out
-    module _ (codes′ schedules′ : List ℕ) (out-code : take (n - 1) codes′ ≡ omit i (take n codes))
-        (out-schedule : take (n - 1) schedules′ ≡ omit i (take n schedules))
-      where
-        out-codes : take (n - 1) codes′ ≡ codesOf (without code (pairsIn words))
-        out-codes = out-code ∙ rw (x .codes-front) (left-list (λ (r : Pair). r .code))
-
-        out-schedules : take (n - 1) schedules′ ≡ schedulesOf (without code (pairsIn words))
-        out-schedules = out-schedule ∙ rw (x .schedules-front) (left-list (λ (r : Pair). r .schedule))
-
-        pub out-valid : Valid p limit (take (n - 1) codes′) (take (n - 1) schedules′)
-        out-valid = rw (out-codes, out-schedules) left-valid
-
-        pub out-outcome :
-            {second second′ : List ℕ} {answer : Answer} → Rebuilding p (take (n - 1) codes′) (take (n - 1) schedules′) second answer second′
-            → TakenOut p words code second answer second′
-        unfolding fromThere
-        out-outcome {second} =
-            rebuilt-outcome p (length second) (without code (pairsIn words)) out-codes out-schedules (rw (present-is, lt-ltb i n index-lt))
+  pub without-searchable : Prime p → limit ≤ room → Searchable p (codesOf (without code (pairsIn words)))
+  without-searchable prime small =
+      record { prime = prime; valid = without-codes code (pairsIn words) (pairs-codes f); few = omega (arith, without-few) }

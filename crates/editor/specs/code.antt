@@ -1,3 +1,3 @@
--- Lists changed in place, and the answer from a test on.
-pub mod Lists
+-- The changed list of an old table, and the answer from a test on.
+pub mod Changes
 pub mod Editing

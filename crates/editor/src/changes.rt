@@ -1,47 +1,104 @@
-// One list of an old table, changed in place.
-ghost use Prim.Native.Nat.{_-_, _<_, _≤_};
-ghost use mathlib.Core.List.{_∷_};
+// The list that an edit makes of an old table's pairs, and its table. No pairs are sorted: any order of the same pairs has the same table.
+ghost use Prim.Native.Nat.{_+_, _≤_};
+ghost use mathlib.Core.Bool.{cond};
 ghost use mathlib.Core.Path.{_≡_};
-ghost use lib.Dec.{eqb};
-ghost use lib.ListN.{length, getD, take};
-ghost use Rattle.table.specs.Answers.{firstOf};
-ghost use Rattle.editor.specs.code.Lists.{omit};
+ghost use Rattle.search.specs.code.Searchable.{Searchable};
+ghost use Rattle.table.specs.Pairs.{codesOf};
+ghost use Rattle.reader.specs.Pairs.{pairsIn};
+ghost use Rattle.editor.specs.code.Changes.{isOther, others, changed, Gatherable, Gathered, Changing, Roomy, Listed, ChangedBuilt};
+use table::limits::FEW;
+use table::limits::ROOM;
+use table::numbers::one;
+use table::numbers::wide;
+use writer::valid::write_valid;
 
-// The index of a code, the number of codes where it is not among them.
-pub(crate) fn position(codes: &[u32], code: u32) -> usize
-    ensures { λ r. ⌜ r ≡ firstOf (length (now (codes .entry))) (λ i. eqb (getD (now (codes .entry)) i 0) code) ⌝ }
+// How the list is changed: the code is left out, and where `added` is 1, not 0, put in with a schedule.
+pub(crate) struct Change {
+    pub(crate) code: u32,
+    pub(crate) schedule: u32,
+    pub(crate) added: usize,
+    // how many pairs have other codes
+    pub(crate) others: usize,
+}
+
+// 1 for a cell that holds a code other than this one, 0 for any other cell.
+fn other(a: u32, code: u32) -> usize
+    ensures { λ r. ⌜ (r ≡ cond (isOther code a) 1 0) × (r ≤ 1) ⌝ }
 {
-    let mut i = 0;
-    while i < codes.len() {
-        if codes[i] == code {
-            return i;
-        }
+    wide(one((a != 0) & (a != code)))
+}
+
+// Writes the pairs of the cells that hold a code other than this one, by rising cell. There are as many as places. Every cell is stored, and
+// stays where it counts: a branch would be mispredicted.
+fn gather_others(cells: &[u32], held: &[u32], code: u32, codes: &mut [u32], schedules: &mut [u32])
+    requires { ⌜ Gatherable code (now cells) (now held) (now codes) (now schedules) ⌝ }
+    ensures { λ _. ⌜ Gathered (others code (now (cells .entry)) (now (held .entry))) (now (codes .exit)) (now (schedules .exit)) ⌝ }
+{
+    let mut k: usize = 0;
+    let mut i: usize = 0;
+    while k < codes.len() {
+        let a = cells[i];
+        codes[k] = a;
+        schedules[k] = held[i];
+        k += other(a, code);
         i += 1;
     }
-    i
 }
 
-// Inserts at the front, over the element with index i: those before it move up by one.
-pub(crate) fn insert_front(list: &mut [u32], i: usize, first: u32)
-    requires { ⌜ i < length (now list) ⌝ }
-    ensures { λ _. ⌜ now (list .exit) ≡ first ∷ omit i (now (list .entry)) ⌝ }
+// Lists the changed pairs in the first places.
+fn list_changed(words: &[u32], change: Change, codes: &mut [u32], schedules: &mut [u32])
+    requires { ⌜ Changing (now words) change ⌝ }
+    requires { ⌜ Roomy change (now codes) (now schedules) ⌝ }
+    ensures { λ _. ⌜ Listed (now (words .entry)) change (now (codes .exit)) (now (schedules .exit)) ⌝ }
 {
-    let mut gap = i;
-    while 0 < gap {
-        list[gap] = list[gap - 1];
-        gap -= 1;
-    }
-    list[0] = first;
+    let from = change.added;
+    let to = from + change.others;
+    codes[0] = change.code;
+    schedules[0] = change.schedule;
+    let c = wide(words[1]);
+    let start = 3 + 2 * wide(words[0]);
+    let middle = start + c;
+    let end = middle + c;
+    gather_others(
+        &words[start..middle],
+        &words[middle..end],
+        change.code,
+        &mut codes[from..to],
+        &mut schedules[from..to],
+    );
 }
 
-// Removes the element with index i of the first n: those after it move down by one.
-pub(crate) fn remove_at(list: &mut [u32], n: usize, i: usize)
-    requires { ⌜ (i < n) × (n ≤ length (now list)) ⌝ }
-    ensures { λ _. ⌜ take (n - 1) (now (list .exit)) ≡ omit i (take n (now (list .entry))) ⌝ }
+// Writes the table of the changed list, with room for its pairs, and gives the total. No word is written where fewer are lent.
+fn write_listed(
+    p: u32,
+    words: &[u32],
+    change: Change,
+    codes: &mut [u32],
+    schedules: &mut [u32],
+    second: &mut [u32],
+) -> u32
+    requires { ⌜ Searchable p (codesOf (changed change (pairsIn (now words)))) ⌝ }
+    requires { ⌜ Changing (now words) change ⌝ }
+    requires { ⌜ Roomy change (now codes) (now schedules) ⌝ }
+    ensures { λ r. ⌜ ChangedBuilt p (now (words .entry)) change (now (second .entry)) r (now (second .exit)) ⌝ }
 {
-    let mut gap = i;
-    while gap + 1 < n {
-        list[gap] = list[gap + 1];
-        gap += 1;
+    list_changed(words, change, codes, schedules);
+    let m = change.added + change.others;
+    write_valid(p, &codes[..m], &schedules[..m], second)
+}
+
+// The same with room of its own.
+pub(crate) fn write_changed(p: u32, words: &[u32], change: Change, second: &mut [u32]) -> u32
+    requires { ⌜ Searchable p (codesOf (changed change (pairsIn (now words)))) ⌝ }
+    requires { ⌜ Changing (now words) change ⌝ }
+    ensures { λ r. ⌜ ChangedBuilt p (now (words .entry)) change (now (second .entry)) r (now (second .exit)) ⌝ }
+{
+    if change.added + change.others <= FEW {
+        let mut codes = [0u32; FEW];
+        let mut schedules = [0u32; FEW];
+        return write_listed(p, words, change, &mut codes, &mut schedules, second);
     }
+    let mut codes = [0u32; ROOM];
+    let mut schedules = [0u32; ROOM];
+    write_listed(p, words, change, &mut codes, &mut schedules, second)
 }

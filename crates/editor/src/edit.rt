@@ -1,25 +1,24 @@
 // Putting one code in and taking one out, into a second buffer (document 01, "Put in, take out"). The old table is read only.
-ghost use Prim.Native.Nat.{_+_, _<_, _≤_};
-ghost use mathlib.Core.Bool.{cond};
+ghost use Prim.Native.Nat.{_≤_};
 ghost use mathlib.Core.Path.{_≡_};
-ghost use lib.Dec.{eqb};
+ghost use lib.ListN.{length};
 ghost use Rattle.hash.specs.Theorems.{Prime};
-ghost use Rattle.audit.specs.WellFormed.{WellFormed};
+ghost use Rattle.search.specs.code.Searchable.{Searchable};
 ghost use Rattle.table.specs.Limits.{room, mostPairs};
-ghost use Rattle.editor.specs.Edit.{Inserted, Removed};
+ghost use Rattle.table.specs.Pairs.{codesOf};
+ghost use Rattle.audit.specs.WellFormed.{WellFormed};
+ghost use Rattle.reader.specs.Pairs.{pairsIn};
+ghost use Rattle.editor.specs.Edit.{without, Inserted, Removed};
 ghost use Rattle.editor.specs.Edited.{editedOf};
-ghost use Rattle.lists.specs.Valid.{Valid};
+ghost use Rattle.editor.specs.code.Changes.{changed, Changing};
 ghost use Rattle.editor.specs.code.Editing.{InRange, Rebuilding, PutIn, TakenOut};
-use crate::changes::insert_front;
-use crate::changes::position;
-use crate::changes::remove_at;
+use crate::changes::Change;
+use crate::changes::write_changed;
 use audit::check::Checked;
 use audit::check::check_for;
-use builder::build::BuildAnswer;
-use builder::build::build_for;
-use reader::pairs::write_pairs;
 use table::limits::MOST_PAIRS;
-use table::limits::ROOM;
+use table::lookup::Found;
+use table::lookup::lookup_for;
 use table::numbers::outside;
 use table::numbers::wide;
 
@@ -40,34 +39,34 @@ pub enum Edited {
     Refused(Checked),
 }
 
-// From 54 on: builds a changed list.
-fn rebuild(p: u32, limit: u32, codes: &[u32], schedules: &[u32], second: &mut [u32]) -> Edited
-    requires { ⌜ Prime p ⌝ }
-    requires { ⌜ limit ≤ room ⌝ }
-    requires { ⌜ Valid p limit (now codes) (now schedules) ⌝ }
-    ensures { λ r. ⌜ Rebuilding p (now (codes .entry)) (now (schedules .entry)) (now (second .entry)) (editedOf r) (now (second .exit)) ⌝ }
+// How many pairs of other codes an accepted table has: one less than n where a lookup finds the code.
+fn count_others(p: u32, limit: u32, words: &[u32], code: u32) -> usize
+    requires { ⌜ WellFormed p limit (now words) ⌝ }
+    ensures { λ r. ⌜ r ≡ length (without code (pairsIn (now (words .entry)))) ⌝ }
 {
-    let built = build_for(p, limit, codes, schedules, second);
-    match built {
-        BuildAnswer::Built(total) => Edited::Rebuilt(total),
-        BuildAnswer::TooShort(total) => Edited::TooShort(total),
-        // never: a changed list is valid
-        BuildAnswer::Refused(_) => Edited::Full,
-    }
+    let n = wide(words[0]);
+    let found = lookup_for(p, limit, words, code);
+    let Found::Schedule(_) = found else {
+        return n;
+    };
+    n - 1
 }
 
-// How many of n pairs there are with the code put in: its index is n where it is new.
-fn count_with(n: usize, i: usize) -> usize
-    requires { ⌜ n < 4294967296 ⌝ }
-    ensures { λ r. ⌜ r ≡ cond (eqb i n) (n + 1) n ⌝ }
+// From 54 on: builds the changed list.
+fn rebuild(p: u32, words: &[u32], change: Change, second: &mut [u32]) -> Edited
+    requires { ⌜ Searchable p (codesOf (changed change (pairsIn (now words)))) ⌝ }
+    requires { ⌜ Changing (now words) change ⌝ }
+    ensures { λ r. ⌜ Rebuilding p (changed change (pairsIn (now (words .entry)))) (now (second .entry)) (editedOf r) (now (second .exit)) ⌝ }
 {
-    if i == n {
-        return n + 1;
+    let lent = second.len();
+    let total = write_changed(p, words, change, second);
+    if lent < wide(total) {
+        return Edited::TooShort(total);
     }
-    n
+    Edited::Rebuilt(total)
 }
 
-// From 53 on: inserts a pair at the front of an accepted table's lists, in place of the code's own.
+// From 53 on: a table with as many other codes as the limit is full.
 fn put_in(p: u32, limit: u32, words: &[u32], code: u32, schedule: u32, second: &mut [u32]) -> Edited
     requires { ⌜ Prime p ⌝ }
     requires { ⌜ limit ≤ room ⌝ }
@@ -75,39 +74,37 @@ fn put_in(p: u32, limit: u32, words: &[u32], code: u32, schedule: u32, second: &
     requires { ⌜ InRange p code schedule ⌝ }
     ensures { λ r. ⌜ PutIn p limit (now (words .entry)) code schedule (now (second .entry)) (editedOf r) (now (second .exit)) ⌝ }
 {
-    let mut codes = [0u32; ROOM];
-    let mut schedules = [0u32; ROOM];
-    write_pairs(words, &mut codes, &mut schedules);
-    let n = wide(words[0]);
-    let i = position(&codes[..n], code);
-    if i == wide(limit) {
+    let others = count_others(p, limit, words, code);
+    if others == wide(limit) {
         return Edited::Full;
     }
-    insert_front(&mut codes, i, code);
-    insert_front(&mut schedules, i, schedule);
-    let m = count_with(n, i);
-    rebuild(p, limit, &codes[..m], &schedules[..m], second)
+    let change = Change {
+        code,
+        schedule,
+        added: 1,
+        others,
+    };
+    rebuild(p, words, change, second)
 }
 
-// From 55 on: leaves the code's pair out of the lists of an accepted table.
+// From 55 on: a table whose codes are all others does not have the code.
 fn take_out(p: u32, limit: u32, words: &[u32], code: u32, second: &mut [u32]) -> Edited
     requires { ⌜ Prime p ⌝ }
     requires { ⌜ limit ≤ room ⌝ }
     requires { ⌜ WellFormed p limit (now words) ⌝ }
     ensures { λ r. ⌜ TakenOut p (now (words .entry)) code (now (second .entry)) (editedOf r) (now (second .exit)) ⌝ }
 {
-    let mut codes = [0u32; ROOM];
-    let mut schedules = [0u32; ROOM];
-    write_pairs(words, &mut codes, &mut schedules);
-    let n = wide(words[0]);
-    let i = position(&codes[..n], code);
-    if i == n {
+    let others = count_others(p, limit, words, code);
+    if others == wide(words[0]) {
         return Edited::NotThere;
     }
-    remove_at(&mut codes, n, i);
-    remove_at(&mut schedules, n, i);
-    let m = n - 1;
-    rebuild(p, limit, &codes[..m], &schedules[..m], second)
+    let change = Change {
+        code,
+        schedule: 0,
+        added: 0,
+        others,
+    };
+    rebuild(p, words, change, second)
 }
 
 // Putting in for a prime p and a limit on the codes of a table.

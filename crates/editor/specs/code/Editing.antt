@@ -5,9 +5,9 @@ use mathlib.Core.List.{List}
 use mathlib.Core.Path.{_≡_}
 use lib.Dec.{eqb}
 use lib.ListN.{length}
-use Rattle.table.specs.Answers.{Answer, refuse, filled, intoRoom}
+use Rattle.table.specs.Answers.{Answer, refuse, filled}
+use Rattle.table.specs.Pairs.{Pair}
 use Rattle.table.specs.Words.{codeCount}
-use Rattle.table.specs.TwoLevel.{wordsNeeded, tableOf}
 use Rattle.reader.specs.Pairs.{pairsIn}
 use Rattle.editor.specs.Edit.{without, withPair, present, rebuilt, tableOfPairs}
 
@@ -16,12 +16,9 @@ pub record Outcome (expected : Answer) (table second : List ℕ) (answer : Answe
   pub answers : answer ≡ expected
   pub second-at-exit : second′ ≡ filled expected table second
 
--- from 54 on, for a valid list
-unfoldable pub fromTotal : ℕ → List ℕ → ℕ → Answer
-fromTotal p codes lent = intoRoom 54 (wordsNeeded p codes) lent
-
-abbrev pub Rebuilding : ℕ → List ℕ → List ℕ → List ℕ → Answer → List ℕ → Type 0
-Rebuilding p codes schedules second = Outcome (fromTotal p codes (length second)) (tableOf p codes schedules) second
+-- from 54 on, for the pairs of a changed list
+abbrev pub Rebuilding : ℕ → List Pair → List ℕ → Answer → List ℕ → Type 0
+Rebuilding p pairs second = Outcome (rebuilt p pairs (length second)) (tableOfPairs p pairs) second
 
 -- a code and a schedule that neither 51 nor 52 refuses
 pub record InRange (p code schedule : ℕ) : Type 0 where

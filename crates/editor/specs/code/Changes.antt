@@ -1,0 +1,60 @@
+-- The list that an edit makes of an old table's pairs: what the code that gathers and writes it relies on and promises.
+use Prim.Native.Nat.{ℕ, _+_, _≤_}
+use mathlib.Core.Bool.{Bool, not, _&&_}
+use mathlib.Core.List.{List, [], _∷_, _++_}
+use mathlib.Core.Path.{_≡_}
+use lib.Dec.{eqb}
+use lib.ListN.{length, take}
+use Rattle.table.specs.Pairs.{Pair, codesOf, schedulesOf}
+use Rattle.table.specs.Words.{total}
+use Rattle.audit.specs.Check.{allCodes}
+use Rattle.reader.specs.Pairs.{allSchedules, stored, pairsIn}
+use Rattle.writer.specs.code.Valid.{ValidBuilt}
+use Rattle.editor.specs.Edit.{without}
+use Rattle.editor.specs.declared.changes.Change.{Change}
+
+-- a cell with word a holds a code other than this one
+abbrev pub isOther : ℕ → ℕ → Bool
+isOther code a = not (eqb a 0) && not (eqb a code)
+
+-- the pairs of such cells, by rising cell
+unfoldable pub others : ℕ → List ℕ → List ℕ → List Pair
+unfolding without
+others code cells held = without code (stored cells held)
+
+-- the pairs after a change
+unfoldable pub changed : Change → List Pair → List Pair
+unfolding without
+changed x pairs = take (x .added) (record { code = x .code; schedule = x .schedule } ∷ []) ++ without (x .code) pairs
+
+-- two lists with a place for each such pair
+pub record Gatherable (code : ℕ) (cells held codes schedules : List ℕ) : Type 0 where
+  pub same : length held ≡ length cells
+  pub codes-long : length codes ≡ length (others code cells held)
+  pub schedules-long : length schedules ≡ length (others code cells held)
+
+-- two lists hold these pairs
+pub record Gathered (pairs : List Pair) (codes schedules : List ℕ) : Type 0 where
+  pub codes-are : codes ≡ codesOf pairs
+  pub schedules-are : schedules ≡ schedulesOf pairs
+
+-- a change of a whole table
+pub record Changing (words : List ℕ) (x : Change) : Type 0 where
+  pub whole : total words ≤ length words
+  pub at-most-one : x .added ≤ 1
+  pub others-are : x .others ≡ length (without (x .code) (pairsIn words))
+
+-- two lists with a place for each pair after a change, and a place at least
+pub record Roomy (x : Change) (codes schedules : List ℕ) : Type 0 where
+  pub some : 1 ≤ length codes
+  pub codes-long : x .added + x .others ≤ length codes
+  pub same : length schedules ≡ length codes
+
+-- two lists begin with the changed pairs, by rising cell
+abbrev pub Listed : List ℕ → Change → List ℕ → List ℕ → Type 0
+Listed words x codes schedules =
+    Gathered (changed x (stored (allCodes words) (allSchedules words))) (take (x .added + x .others) codes) (take (x .added + x .others) schedules)
+
+-- the total of the changed list, and the lent words at exit
+abbrev pub ChangedBuilt : ℕ → List ℕ → Change → List ℕ → ℕ → List ℕ → Type 0
+ChangedBuilt p words x = ValidBuilt p (codesOf (changed x (pairsIn words))) (schedulesOf (changed x (pairsIn words)))
