@@ -1,9 +1,10 @@
 #include "compare.h"
 
+#include "functions.h"
 #include "generators.h"
-#include "glass.h"
 #include "listers.h"
 #include "lists.h"
+#include "tables.h"
 
 #include <algorithm>
 #include <cstdio>
@@ -11,39 +12,9 @@
 #include <map>
 #include <vector>
 
-extern "C" {
-#define DECLARED(prefix)                                                                                                          \
-    glass_answer prefix##_build(const uint32_t *, size_t, const uint32_t *, size_t, uint32_t *, size_t);                          \
-    glass_answer prefix##_check(const uint32_t *, size_t);                                                                        \
-    glass_answer prefix##_lookup(const uint32_t *, size_t, uint32_t);                                                             \
-    glass_answer prefix##_panel(const uint32_t *, size_t, const uint32_t *, size_t);                                              \
-    glass_answer prefix##_pairs(const uint32_t *, size_t, uint32_t *, size_t, uint32_t *, size_t);                                \
-    glass_size prefix##_read_list(const uint8_t *, size_t, uint32_t *, size_t, uint32_t *, size_t);                               \
-    glass_size prefix##_write_list(const uint32_t *, size_t, const uint32_t *, size_t, uint8_t *, size_t);
-DECLARED(yard)
-DECLARED(yardgcc)
-}
-
 namespace {
 
-using Words = std::vector<uint32_t>;
 using Bytes = std::vector<uint8_t>;
-
-struct Functions {
-    const char *name;
-    decltype(&glass_build) build;
-    decltype(&glass_check) check;
-    decltype(&glass_lookup) lookup;
-    decltype(&glass_panel) panel;
-    decltype(&glass_pairs) pairs;
-    decltype(&glass_read_list) read_list;
-    decltype(&glass_write_list) write_list;
-};
-
-#define FUNCTIONS(name, prefix) \
-    { name, prefix##_build, prefix##_check, prefix##_lookup, prefix##_panel, prefix##_pairs, prefix##_read_list, prefix##_write_list }
-
-const Functions all[] = {FUNCTIONS("ours", glass), FUNCTIONS("yardstick (clang)", yard), FUNCTIONS("yardstick (gcc)", yardgcc)};
 
 // how often each operation gave each number
 std::map<std::string, std::map<uint32_t, uint64_t>> seen;
@@ -74,32 +45,37 @@ template <class Element = uint32_t> std::vector<Element> lent(size_t len, Random
     return v;
 }
 
-// The table that ours makes of a list, in any length of lent words; empty where it is refused.
+// What ours writes into lent memory of any length, and the others alike; empty where it is refused.
+template <class Element = uint32_t, class Call> std::vector<Element> filled(const char *operation, size_t len, Random &r, Call call) {
+    const std::vector<Element> before = lent<Element>(len, r);
+    std::vector<Element> first = before;
+    const auto a = call(functions[0], first.data() + AROUND);
+    if (a.number && first != before) changed(operation);
+    for (const Functions &f : functions) {
+        std::vector<Element> v = before;
+        same(operation, f.name, a, call(f, v.data() + AROUND));
+        if (v != first) differ(operation, f.name, "lent memory");
+    }
+    seen[operation][a.number]++;
+    if (a.number) return {};
+    return std::vector<Element>(first.begin() + AROUND, first.begin() + AROUND + (ptrdiff_t)a.value);
+}
+
+// The table of a list.
 Words built(Words codes, Words schedules, size_t len, Random &r) {
     codes.reserve(1), schedules.reserve(1); // pointers that are not null
-    const Words codes_before = codes, schedules_before = schedules, before = lent(len, r);
-    Words first;
-    glass_answer a = {0, 0};
-    for (const Functions &f : all) {
-        Words w = before;
-        glass_answer b = f.build(codes.data(), codes.size(), schedules.data(), schedules.size(), w.data() + AROUND, len);
-        if (&f == all) {
-            a = b, first = w;
-            if (a.number && w != before) changed("build");
-        }
-        same("build", f.name, a, b);
-        if (w != first) differ("build", f.name, "the lent words");
+    const Words codes_before = codes, schedules_before = schedules;
+    return filled("build", len, r, [&](const Functions &f, uint32_t *words) {
+        glass_answer a = f.build(codes.data(), codes.size(), schedules.data(), schedules.size(), words, len);
         if (codes != codes_before || schedules != schedules_before) differ("build", f.name, "the list");
-    }
-    seen["build"][a.number]++;
-    if (a.number) return {};
-    return Words(first.begin() + AROUND, first.begin() + AROUND + a.value);
+        return a;
+    });
 }
 
 void lookups(const Words &table, const Words &codes) {
     for (uint32_t code : codes) {
-        glass_answer a = all[0].lookup(table.data(), table.size(), code);
-        for (const Functions &f : all) same("look up", f.name, a, f.lookup(table.data(), table.size(), code));
+        glass_answer a = functions[0].lookup(table.data(), table.size(), code);
+        for (const Functions &f : functions) same("look up", f.name, a, f.lookup(table.data(), table.size(), code));
         seen["look up"][a.number]++;
     }
 }
@@ -107,18 +83,18 @@ void lookups(const Words &table, const Words &codes) {
 // All that is asked of a table from anywhere.
 void asked(const Words &table, const Words &codes, Random &r) {
     const Words before = table;
-    glass_answer a = all[0].check(table.data(), table.size());
-    for (const Functions &f : all) same("check", f.name, a, f.check(table.data(), table.size()));
+    glass_answer a = functions[0].check(table.data(), table.size());
+    for (const Functions &f : functions) same("check", f.name, a, f.check(table.data(), table.size()));
     seen["check"][a.number]++;
 
     size_t n = table.empty() ? 0 : std::min<size_t>(table[0], 2050);
     size_t codes_len = n + r.below(3) - (n && r.below(4) == 0), schedules_len = n + r.below(3) - (n && r.below(4) == 0);
     const Words codes_before = lent(codes_len, r), schedules_before = lent(schedules_len, r);
     Words first_codes, first_schedules;
-    for (const Functions &f : all) {
+    for (const Functions &f : functions) {
         Words c = codes_before, s = schedules_before;
         glass_answer b = f.pairs(table.data(), table.size(), c.data() + AROUND, codes_len, s.data() + AROUND, schedules_len);
-        if (&f == all) {
+        if (&f == functions) {
             a = b, first_codes = c, first_schedules = s;
             if (a.number && (c != codes_before || s != schedules_before)) changed("read back");
         }
@@ -139,77 +115,16 @@ void asked(const Words &table, const Words &codes, Random &r) {
             else x = r.below(4) ? r.below(65538) : 65537 * r.below(2);
         }
         panel.reserve(1); // a pointer that is not null
-        a = all[0].panel(table.data(), table.size(), panel.data(), panel.size());
-        for (const Functions &f : all) same("panel", f.name, a, f.panel(table.data(), table.size(), panel.data(), panel.size()));
+        a = functions[0].panel(table.data(), table.size(), panel.data(), panel.size());
+        for (const Functions &f : functions) same("panel", f.name, a, f.panel(table.data(), table.size(), panel.data(), panel.size()));
         seen["panel"][a.number]++;
     }
     if (table != before) differ("check, read back, look up, panel", "one of them", "the table");
 }
 
 // A well-formed table of the list with any multipliers that fit, not the least.
-Words other_table(const Words &codes, const Words &schedules, Random &r) {
-    uint64_t n = codes.size(), k, c, start = 0;
-    std::vector<Words> blocks;
-    auto hash = [](uint64_t m, uint64_t a, uint64_t w) { return m * a % 65537 % w; };
-    do {
-        k = 1 + r.below(65536);
-        blocks.assign(n, {});
-        for (uint32_t i = 0; i < n; i++) blocks[hash(k, codes[i], n)].push_back(i);
-        c = 0;
-        for (const Words &b : blocks) c += b.size() * b.size();
-    } while (c > 3 * n - 2);
-    Words table(3 + 2 * n + 2 * c);
-    table[0] = (uint32_t)n, table[1] = (uint32_t)c, table[2] = (uint32_t)k;
-    for (uint32_t j = 0; j < n; j++) {
-        uint64_t w = blocks[j].size() * blocks[j].size(), q, at;
-        for (bool fits = false; !fits;) {
-            q = 1 + r.below(65536), fits = true;
-            std::fill_n(table.begin() + (ptrdiff_t)(3 + 2 * n + start), w, 0);
-            for (uint32_t i : blocks[j]) {
-                at = 3 + 2 * n + start + hash(q, codes[i], w);
-                fits = fits && table[at] == 0;
-                table[at] = codes[i];
-            }
-        }
-        for (uint32_t i : blocks[j]) table[3 + 2 * n + c + start + hash(q, codes[i], w)] = schedules[i];
-        table[3 + j] = (uint32_t)start, table[3 + n + j] = (uint32_t)q;
-        start += w;
-    }
-    return table;
-}
-
-// One or two words are changed, or a cell is emptied, or the words are cut or go on.
-void damage(Words &t, Random &r) {
-    uint32_t n = t[0], c = t[1];
-    for (uint32_t left = 1 + r.below(2); left > 0; left--) {
-        uint32_t size = (uint32_t)t.size(), at = r.below(4) == 0 ? r.below(3) : r.below(size);
-        switch (r.below(12)) {
-        case 0: t[at] = r.next(); break;
-        case 1: t[at] = 0; break;
-        case 2: t[at]++; break;
-        case 3: t[at]--; break;
-        case 4: t[at] = 65536 + r.below(2); break;
-        case 5: t[at] = 999 + r.below(2); break;
-        case 6: std::swap(t[at], t[r.below(size)]); break;
-        case 7: t[at] = 1 + r.below(65536); break;
-        case 8: t[at] ^= 1u << r.below(32); break;
-        case 9: // a cell is emptied, or takes another's pair
-            if (c) {
-                uint32_t i = r.below(c), u = r.below(c), first = 3 + 2 * n;
-                bool empty = r.below(2);
-                t[first + i] = empty ? 0 : t[first + u];
-                t[first + c + i] = empty ? 0 : t[first + c + u];
-            }
-            break;
-        case 10: // a start or a multiplier
-            if (n) t[3 + r.below(2 * n)] = r.below(c + 2);
-            break;
-        case 11:
-            if (r.below(2)) t.resize(r.below(size + 1));
-            else t.push_back(r.next());
-            return;
-        }
-    }
+Words other_table(const List &l, Random &r) {
+    return table_by(l, [&](uint64_t) { return 1 + r.below(65536); });
 }
 
 // A list of any shape, sometimes with a fault that the build refuses.
@@ -229,6 +144,49 @@ List any_list(uint32_t turn, Random &r) {
     if (n && (fault == 0 || fault == 2)) l.schedules[r.below(n)] = r.below(2) ? 0 : 1000;
     if (fault == 3) l.schedules.push_back(1);
     return l;
+}
+
+// ---- put in, take out
+
+// The code is put in, and taken out: into second buffers that are longer than the new table, exactly enough, and too short by one.
+void edited(const Words &table, uint32_t code, uint32_t schedule, Random &r) {
+    const Words before = table;
+    const size_t n = table.empty() ? 0 : std::min<size_t>(table[0], 2047);
+    for (bool in : {true, false}) {
+        auto edit = [&](size_t len) {
+            return filled(in ? "put in" : "take out", len, r, [&](const Functions &f, uint32_t *second) {
+                if (in) return f.insert(table.data(), table.size(), code, schedule, second, len);
+                return f.remove(table.data(), table.size(), code, second, len);
+            });
+        };
+        const size_t total = edit(glass_words(n + 1) + r.below(3)).size();
+        if (total) edit(total), edit(total - 1);
+    }
+    if (table != before) differ("put in, take out", "one of them", "the table");
+}
+
+// Gives the number of tables that were edited.
+uint64_t compare_edits(uint32_t lists) {
+    Random r(97);
+    uint64_t tables = 0;
+    const uint32_t codes[] = {0, 1, 65536, 65537, ~(uint32_t)0}, schedules[] = {0, 1, 999, 1000, ~(uint32_t)0};
+    for (uint32_t turn = 0; turn < lists; turn++) {
+        // of the largest tables, half are full and half have room for one code
+        const List l = turn % 100 == 0 ? random_list(2048 - r.below(2), r) : any_list(turn, r);
+        Words table = built(l.codes, l.schedules, glass_words(l.codes.size()), r);
+        if (table.empty()) continue;
+        if (turn % 4 == 0 && !l.codes.empty()) table = other_table(l, r);
+        for (int i = 0; i < 8; i++, tables++) {
+            Words t = table;
+            if (i >= 4) damage(t, r);
+            t.reserve(1); // a pointer that is not null
+            uint32_t code = 1 + r.below(65536);
+            if (i % 4 == 0) code = codes[r.below(5)];
+            else if (i % 2 && !l.codes.empty()) code = l.codes[r.below((uint32_t)l.codes.size())];
+            edited(t, code, r.below(2) ? schedules[r.below(5)] : 1 + r.below(999), r);
+        }
+    }
+    return tables;
 }
 
 // ---- lists as text
@@ -264,10 +222,10 @@ void texts_read(const std::string &text, size_t codes_len, size_t schedules_len,
     const Words codes_before = lent(codes_len, r), schedules_before = lent(schedules_len, r);
     Words first_codes, first_schedules;
     glass_size a = {0, 0};
-    for (const Functions &f : all) {
+    for (const Functions &f : functions) {
         Words c = codes_before, s = schedules_before;
         glass_size b = f.read_list(given.data(), given.size(), c.data() + AROUND, codes_len, s.data() + AROUND, schedules_len);
-        if (&f == all) {
+        if (&f == functions) {
             a = b, first_codes = c, first_schedules = s;
             if (a.number && (c != codes_before || s != schedules_before)) changed("read text");
         }
@@ -281,21 +239,11 @@ void texts_read(const std::string &text, size_t codes_len, size_t schedules_len,
 void texts_written(Words codes, Words schedules, size_t len, Random &r) {
     codes.reserve(1), schedules.reserve(1); // pointers that are not null
     const Words codes_before = codes, schedules_before = schedules;
-    const Bytes before = lent<uint8_t>(len, r);
-    Bytes first;
-    glass_size a = {0, 0};
-    for (const Functions &f : all) {
-        Bytes t = before;
-        glass_size b = f.write_list(codes.data(), codes.size(), schedules.data(), schedules.size(), t.data() + AROUND, len);
-        if (&f == all) {
-            a = b, first = t;
-            if (a.number && t != before) changed("write text");
-        }
-        same("write text", f.name, a, b);
-        if (t != first) differ("write text", f.name, "the lent bytes");
+    filled<uint8_t>("write text", len, r, [&](const Functions &f, uint8_t *text) {
+        glass_size a = f.write_list(codes.data(), codes.size(), schedules.data(), schedules.size(), text, len);
         if (codes != codes_before || schedules != schedules_before) differ("write text", f.name, "the list");
-    }
-    seen["write text"][a.number]++;
+        return a;
+    });
 }
 
 // Gives the number of texts that were read.
@@ -410,10 +358,8 @@ uint64_t compare_listings(uint32_t lists) {
     uint64_t files = 0;
     for (uint32_t turn = 0; turn < lists; turn++) {
         List l = any_list(turn, r);
-        Words table(glass_words(l.codes.size()));
-        glass_answer a = glass_build(l.codes.data(), l.codes.size(), l.schedules.data(), l.schedules.size(), table.data(), table.size());
-        if (a.number) continue;
-        table.resize(a.value);
+        const Words table = built(l.codes, l.schedules, glass_words(l.codes.size()), r);
+        if (table.empty()) continue;
         const Bytes before = lent<uint8_t>(FILES_MOST_TEXT, r);
         for (int i = 0; i < 12; i++, files++) {
             Words t = table;
@@ -434,9 +380,8 @@ uint64_t compare_listings(uint32_t lists) {
 
 std::string compare_all() {
     Random r(7);
-    const uint32_t lists = 40000;
-    uint64_t damaged = 0, other = 0, exhaustive = 0;
-    for (uint32_t turn = 0; turn < lists; turn++) {
+    uint64_t lists = 0, damaged = 0, other = 0, exhaustive = 0;
+    for (uint32_t turn = 0; turn < 40000; turn++) {
         List l = any_list(turn, r);
         size_t len = glass_words(l.codes.size());
         if (r.below(8) == 0) len = r.below((uint32_t)len + 1);
@@ -445,7 +390,7 @@ std::string compare_all() {
         if (table.empty()) continue;
         asked(table, l.codes, r);
         if (turn % 10 == 0 && !l.codes.empty()) {
-            table = other_table(l.codes, l.schedules, r);
+            table = other_table(l, r);
             asked(table, l.codes, r);
             other++;
         }
@@ -472,11 +417,13 @@ std::string compare_all() {
         asked(t, {1, 2, 3}, r);
     }
     const uint32_t written = 40000;
-    const uint64_t texts = compare_texts(written), loads = compare_loads(), words = compare_words(), files = compare_listings(4000);
+    const uint64_t edits = compare_edits(8000), texts = compare_texts(written), loads = compare_loads(), words = compare_words(), files = compare_listings(4000);
 
+    for (const auto &a : seen["build"]) lists += a.second;
     std::string s = grouped(lists) + " lists, " + grouped(damaged) + " damaged tables, " + grouped(other) +
                     " well-formed tables whose multipliers are not least, " + grouped(senseless) + " runs of words that are no table; of " +
-                    grouped(exhaustive) + " tables every code from 0 to 65,538; " + grouped(written) + " lists written as text, " + grouped(texts) +
+                    grouped(exhaustive) + " tables every code from 0 to 65,538; " + grouped(edits) +
+                    " tables with a code put in and taken out, half of them damaged; " + grouped(written) + " lists written as text, " + grouped(texts) +
                     " texts read, most of them damaged; " + grouped(loads) + " test loads; " + grouped(words) + " runs of bytes made words; " + grouped(files) +
                     " files listed, most of them damaged. All answers and all lent memory were equal. ";
     s += "How often each number was answered, or listed as refused (0: a result, 1000: absent or unknown):\n\n";

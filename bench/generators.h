@@ -2,16 +2,10 @@
 #ifndef GENERATORS_H
 #define GENERATORS_H
 
-#include "glass.h"
+#include "functions.h"
 
 extern "C" {
-#define GENERATOR(name) glass_answer name(size_t, uint32_t *, size_t, uint32_t *, size_t);
-GENERATOR(yard_generate)
-GENERATOR(yardgcc_generate)
-GENERATOR(yard_generate_eights)
-GENERATOR(yardgcc_generate_eights)
-GENERATOR(plain_generate)
-#undef GENERATOR
+decltype(glass_generate) yard_generate_eights, yardgcc_generate_eights, plain_generate;
 }
 
 struct Generator {

@@ -6,12 +6,14 @@
 //   main RESULTS BYTES OURS LINE...     RESULTS is the file to write, BYTES what was printed, OURS says what is linked as glass.h, each LINE goes
 //                                       into the results
 #include "compare.h"
+#include "functions.h"
 #include "generators.h"
-#include "glass.h"
 #include "gperf_bytes.h"
 #include "listers.h"
 #include "lists.h"
 #include "peers.h"
+#include "stack.h"
+#include "tables.h"
 
 #include <malloc.h>
 #include <sched.h>
@@ -30,19 +32,14 @@ extern "C" {
 structure glass_structure(const char *);
 structure yard_structure(const char *);
 structure yardgcc_structure(const char *);
-#define TEXTS(prefix)                                                                               \
-    glass_size prefix##_read_list(const uint8_t *, size_t, uint32_t *, size_t, uint32_t *, size_t); \
-    glass_size prefix##_write_list(const uint32_t *, size_t, const uint32_t *, size_t, uint8_t *, size_t);
-TEXTS(yard)
-TEXTS(yardgcc)
-TEXTS(plain)
+decltype(glass_read_list) plain_read_list;
+decltype(glass_write_list) plain_write_list;
 }
 
 namespace {
 
 using std::size_t;
 using std::string;
-using Words = std::vector<uint32_t>;
 
 // A round asks in parts, and all structures one part before the next: what else the machine does meets all of them.
 enum { ROUNDS = 31, QUERIES = 65536, PARTS = 4, QUERIES_OF_PART = QUERIES / PARTS, BUILT = 16384, OTHER_BUILT = 4096 };
@@ -53,6 +50,12 @@ enum { SIZES = 3 };
 enum Operation { HITS, MISSES, HALF, CHAIN, PANEL, BUILD, CHECK, PAIRS, OPERATIONS };
 const char *const operation_names[] = {"hits", "misses", "half", "chain", "panel", "build", "check", "read back"};
 const char *const kind_names[] = {"random", "arithmetic progressions", "multiples of a number", "r + 4,096 t"};
+
+// what is timed by the size of the table
+const size_t table_sizes[] = {1, 2, 4, 8, 12, 16, 24, 31, 32, 33, 48, 64, 128, 256, 257, 300, 512, 1000, 1500, 2048};
+enum { TABLE_SIZES = 20 };
+enum Sized { SIZED_BUILD, SIZED_CHECK, SIZED_PAIRS, SIZED_INSERT_NEW, SIZED_INSERT_PRESENT, SIZED_REMOVE, SIZED };
+const char *const sized_names[] = {"Build", "Check", "Read back", "Put in, a new code", "Put in, a present code", "Take out"};
 
 // the lists of two codes that take the longest search
 struct Two {
@@ -93,7 +96,7 @@ using Series = std::vector<double>;
 
 struct Results {
     std::vector<Series> of[SIZES][OPERATIONS], structured[SIZES][KINDS], two[TWOS], read[TEXT_KINDS], written[TEXT_KINDS], generated[LOAD_LENGTHS];
-    std::vector<Series> words[BYTE_COUNTS], listed[SIZES];
+    std::vector<Series> sized[SIZED][TABLE_SIZES], words[BYTE_COUNTS], listed[SIZES];
     std::vector<double> bytes[SIZES];
     std::vector<size_t> failed;
 };
@@ -341,6 +344,90 @@ void builds_of_two(const std::vector<structure> &all, size_t count, Results &res
             }
 }
 
+// ---- by size
+
+// One call: what is given, lent memory at its end, and the answer.
+struct Case {
+    List list;
+    Words table, filled;
+    size_t value;
+};
+
+// Fresh lists in each part. Their tables are by a builder that is not timed: the branch predictor has met them with nobody.
+template <class Make, class Call> void by_size(Sized o, int row, Results &results, Make make, Call call) {
+    const size_t n = table_sizes[row];
+    Random r(37);
+    for (int round = 0; round < ROUNDS; round++) {
+        std::vector<double> spent(FUNCTIONS);
+        size_t codes = 0;
+        for (int part = 0; part < PARTS; part++) {
+            const Lists ls = lists_of(RANDOM, n, BUILT / PARTS, (o * ROUNDS + round) * PARTS + part);
+            std::vector<Case> cases;
+            for (size_t i = 0; i < ls.lists.size(); i++) cases.push_back(make(ls.lists[i], ls.sorted[i]));
+            std::vector<Words> lent(cases.size(), Words(glass_words(n)));
+            size_t refused;
+            auto work = [&](const Functions &f) {
+                refused = 0;
+                for (size_t u = 0; u < cases.size(); u++) {
+                    glass_answer a = call(f, cases[u], lent[u]);
+                    refused += a.number || a.value != cases[u].value;
+                }
+            };
+            auto right = [&](const Functions &) {
+                bool same = refused == 0;
+                for (size_t u = 0; u < cases.size(); u++) {
+                    same = same && std::equal(cases[u].filled.begin(), cases[u].filled.end(), lent[u].begin());
+                    std::fill(lent[u].begin(), lent[u].end(), 0);
+                }
+                return same;
+            };
+            in_turn(functions, r, spent, sized_names[o], work, right);
+            codes += n * cases.size();
+        }
+        add_round(results.sized[o][row], spent, (double)codes);
+    }
+}
+
+// What is put in or taken out is the last code of a list.
+void of_size(int row, Results &results) {
+    auto without = [](List l) { return l.codes.pop_back(), l.schedules.pop_back(), l; };
+    auto changed = [](List l) { return l.schedules.back() = l.schedules.back() % 999 + 1, l; };
+    auto made = [](const List &l, const Words &table, const Words &filled) { return Case{l, table, filled, filled.size()}; };
+    auto put_in = [](const Functions &f, const Case &c, Words &lent) {
+        return f.insert(c.table.data(), c.table.size(), c.list.codes.back(), c.list.schedules.back(), lent.data(), lent.size());
+    };
+    by_size(
+        SIZED_BUILD, row, results, [=](const List &l, const List &) { return made(l, {}, table_of(l)); },
+        [](const Functions &f, const Case &c, Words &lent) {
+            return f.build(c.list.codes.data(), c.list.codes.size(), c.list.schedules.data(), c.list.codes.size(), lent.data(), lent.size());
+        });
+    by_size(
+        SIZED_CHECK, row, results,
+        [](const List &l, const List &) {
+            Words table = table_of(l);
+            return Case{l, table, {}, table.size()};
+        },
+        [](const Functions &f, const Case &c, Words &) { return f.check(c.table.data(), c.table.size()); });
+    by_size(
+        SIZED_PAIRS, row, results,
+        [](const List &l, const List &sorted) {
+            // the codes, and the schedules after them
+            Words pairs = sorted.codes;
+            pairs.insert(pairs.end(), sorted.schedules.begin(), sorted.schedules.end());
+            return Case{l, table_of(l), pairs, l.codes.size()};
+        },
+        [](const Functions &f, const Case &c, Words &lent) {
+            return f.pairs(c.table.data(), c.table.size(), lent.data(), c.value, lent.data() + c.value, c.value);
+        });
+    by_size(SIZED_INSERT_NEW, row, results, [=](const List &l, const List &) { return made(l, table_of(without(l)), table_of(l)); }, put_in);
+    by_size(SIZED_INSERT_PRESENT, row, results, [=](const List &l, const List &) { return made(l, table_of(changed(l)), table_of(l)); }, put_in);
+    by_size(
+        SIZED_REMOVE, row, results, [=](const List &l, const List &) { return made(l, table_of(l), table_of(without(l))); },
+        [](const Functions &f, const Case &c, Words &lent) {
+            return f.remove(c.table.data(), c.table.size(), c.list.codes.back(), lent.data(), lent.size());
+        });
+}
+
 // ---- lists as text
 
 // One list, and its text with a null byte after it.
@@ -458,12 +545,11 @@ struct File {
 std::vector<File> files_of(size_t n, int round) {
     Lists ls = lists_of(RANDOM, n, BUILT, round);
     std::vector<File> files(ls.lists.size());
-    Words words(glass_words(n));
     for (size_t i = 0; i < files.size(); i++) {
-        const List &l = ls.lists[i], &s = ls.sorted[i];
-        glass_answer a = glass_build(l.codes.data(), n, l.schedules.data(), n, words.data(), words.size());
+        const List &s = ls.sorted[i];
+        const Words words = table_of(ls.lists[i]);
         const uint8_t *bytes = (const uint8_t *)words.data();
-        files[i].bytes.assign(bytes, bytes + 4 * a.value);
+        files[i].bytes.assign(bytes, bytes + 4 * words.size());
         files[i].text = "codes " + std::to_string(n) + " cells " + std::to_string(words[1]) + " multiplier " + std::to_string(words[2]) + "\n" +
                         lines_of(s.codes, ' ', s.schedules);
     }
@@ -529,7 +615,7 @@ string processor() {
     return "unknown";
 }
 
-string report(const std::vector<structure> &all, const Results &results, const string &compared, double load, int argc, char **argv) {
+string report(const std::vector<structure> &all, const Results &results, const string &compared, const string &stacks, double load, int argc, char **argv) {
     char date[64], loads[64];
     time_t t = time(nullptr);
     strftime(date, sizeof date, "%Y-%m-%d", localtime(&t));
@@ -558,12 +644,27 @@ string report(const std::vector<structure> &all, const Results &results, const s
             s += " | " + number(results.bytes[size][i]) + " |\n";
         }
     }
+    // a row for each size, a column for each function
+    auto table = [&](const string &head, const auto &functions, const auto &rows, const std::vector<Series> *of) {
+        s += head;
+        for (const auto &f : functions) s += string(" | ") + f.name;
+        s += " |\n|---|";
+        for (size_t f = 0; f < std::size(functions); f++) s += "---|";
+        s += "\n";
+        for (size_t row = 0; row < std::size(rows); row++) {
+            s += "| " + grouped(rows[row]);
+            for (size_t f = 0; f < std::size(functions); f++) s += " | " + cell(of[row], f);
+            s += " |\n";
+        }
+    };
+    s += "\n## By the size of the table\n\nOf random lists, in ns a code: of the new table where a new code is put in, of the old one where a code is taken out.\n";
+    for (int o = 0; o < SIZED; o++) table(string("\n### ") + sized_names[o] + "\n\n| codes", functions, table_sizes, results.sized[o]);
     s += "\n## Build, by the shape of the list\n\n| list | codes";
-    for (size_t i = 0; i < 3; i++) s += string(" | ") + all[i].name;
+    for (size_t i = 0; i < FUNCTIONS; i++) s += string(" | ") + all[i].name;
     s += " |\n|---|---|---|---|---|\n";
     auto row = [&](const char *name, size_t n, const std::vector<Series> &of) {
         s += string("| ") + name + " | " + grouped(n);
-        for (size_t i = 0; i < 3; i++) s += " | " + cell(of, i);
+        for (size_t i = 0; i < FUNCTIONS; i++) s += " | " + cell(of, i);
         s += " |\n";
     };
     for (int kind = 0; kind < KINDS; kind++)
@@ -579,25 +680,13 @@ string report(const std::vector<structure> &all, const Results &results, const s
             for (size_t f = 0; f < TEXT_FUNCTIONS; f++) s += " | " + cell(write ? results.written[kind] : results.read[kind], f);
             s += " |\n";
         }
-    // a row for each size, a column for each function
-    auto table = [&](const char *head, const auto &functions, const auto &rows, const std::vector<Series> *of) {
-        s += head;
-        for (const auto &f : functions) s += string(" | ") + f.name;
-        s += " |\n|---|";
-        for (size_t f = 0; f < std::size(functions); f++) s += "---|";
-        s += "\n";
-        for (size_t row = 0; row < std::size(rows); row++) {
-            s += "| " + grouped(rows[row]);
-            for (size_t f = 0; f < std::size(functions); f++) s += " | " + cell(of[row], f);
-            s += " |\n";
-        }
-    };
     table("\n## Test loads\n\nIn ns a code.\n\n| length", generators, load_lengths, results.generated);
     table("\n## Words of bytes\n\nIn ns for all the bytes of a row.\n\n| bytes", word_makers, byte_counts, results.words);
     table("\n## The listing\n\nFrom the bytes of a table file to the text in lent memory, in ns a line.\n\n| codes", listers, sizes, results.listed);
+    s += "\n## Stack\n\n" + stacks;
     s += "\n## Compared before anything was timed\n\n" + compared;
     s += "\nAll structures gave the same answers to every query that was timed, and read back the same pairs; all texts were read and written, all loads "
-         "generated, all bytes made words and all tables listed alike.";
+         "generated, all bytes made words and all tables listed alike. By size, every build, put in and take out gave the table of a plain builder.";
     size_t lists = 0;
     for (size_t n : sizes) lists += ROUNDS * (BUILT / n);
     for (size_t i = 0; i < all.size(); i++)
@@ -609,8 +698,7 @@ string report(const std::vector<structure> &all, const Results &results, const s
 } // namespace
 
 int main(int argc, char **argv) {
-    std::vector<structure> all = {glass_structure("ours"), yard_structure("C, same format (clang)"), yardgcc_structure("C, same format (gcc)")};
-    const size_t same_format = all.size();
+    std::vector<structure> all = {glass_structure(functions[0].name), yard_structure(functions[1].name), yardgcc_structure(functions[2].name)};
     for (const structure &s : peers()) all.push_back(s);
     if (argc == 2 && !std::strcmp(argv[1], "bytes")) return print_bytes(all), 0;
     if (argc < 4) return 2;
@@ -637,6 +725,8 @@ int main(int argc, char **argv) {
     }
     if (!bytes) wrong(argv[2], "bytes");
     for (auto &o : results.two) o.resize(all.size());
+    for (auto &o : results.sized)
+        for (auto &size : o) size.resize(FUNCTIONS);
     for (int kind = 0; kind < TEXT_KINDS; kind++) results.read[kind].resize(TEXT_FUNCTIONS), results.written[kind].resize(TEXT_FUNCTIONS);
     for (auto &o : results.generated) o.resize(GENERATORS);
     for (auto &o : results.words) o.resize(WORD_MAKERS);
@@ -648,14 +738,16 @@ int main(int argc, char **argv) {
         std::fprintf(stderr, "%5.1f s  %s\n", (end - t) / 1e9, what);
         t = end;
     };
-    string compared = compare_all();
+    const string compared = compare_all();
     step("ours and the yardstick compared");
+    const string stacks = stacks_of_calls();
+    step("stacks measured");
     for (int timed = 0; timed < 2; timed++) {
         for (int size = 0; size < SIZES; size++) lookups(all, size, timed, results);
         step(timed ? "lookups and panels timed" : "lookups and panels compared");
         for (int size = 0; size < SIZES; size++) builds_of(all, all.size(), RANDOM, size, BUILT, timed, results);
         for (int kind = PROGRESSION; kind < KINDS; kind++)
-            for (int size = 0; size < SIZES; size++) builds_of(all, same_format, (Kind)kind, size, OTHER_BUILT, timed, results);
+            for (int size = 0; size < SIZES; size++) builds_of(all, FUNCTIONS, (Kind)kind, size, OTHER_BUILT, timed, results);
         step(timed ? "builds, checks and read backs timed" : "builds, checks and read backs compared");
         for (int kind = 0; kind < TEXT_KINDS; kind++) texts_of(kind, timed, results);
         step(timed ? "lists as text timed" : "lists as text compared");
@@ -665,8 +757,10 @@ int main(int argc, char **argv) {
         for (int size = 0; size < SIZES; size++) listed(size, timed, results);
         step(timed ? "words of bytes and listings timed" : "words of bytes and listings compared");
     }
-    builds_of_two(all, same_format, results);
-    string s = report(all, results, compared, load, argc, argv);
+    builds_of_two(all, FUNCTIONS, results);
+    for (int row = 0; row < TABLE_SIZES; row++) of_size(row, results);
+    step("tables of every size timed");
+    string s = report(all, results, compared, stacks, load, argc, argv);
     std::ofstream(argv[1]) << s;
     std::cout << s;
     return std::cout ? 0 : 1;
