@@ -15,6 +15,7 @@ pub mod Chosen
 pub mod Own
 pub mod Contents
 pub mod Order
--- Codes among others, and the cell that a branch-free lookup reads.
+-- Codes among others, the numbers that pass a test, and the cell that a branch-free lookup reads.
 pub mod Among
+pub mod Choosing
 pub mod Probing

@@ -1,14 +1,16 @@
 -- Whether a test holds of some number below n. A loop that only tells that keeps `some i test`, and is branch-free.
-use Prim.Native.Nat.{ℕ, suc, _+_, _≤_}
-use mathlib.Core.Bool.{Bool, false, _||_}
+use Prim.Native.Nat.{ℕ, zero, suc, _+_, _-_, _<_, _≤_}
+use mathlib.Core.Bool.{Bool, true, false, _||_}
 use mathlib.Core.Logic.{⊎-elim}
-use mathlib.Core.Path.{_≡_, ap, _∙_}
+use mathlib.Core.Path.{_≡_, refl, sym, ap, _∙_}
 use native.Mathlib.Decide.{decLt}
-use native.Mathlib.Nat.{le-antisymm}
+use native.Mathlib.Nat.{le-antisymm, add-zero, add-suc, add-sub-of-le}
+use native.Mathlib.Numerals.{add-one}
 use native.Mathlib.Omega.{arith}
 use borrow.Author.Tests.{lt-ltb, le-ltb}
+use lib.Dec.{ltb}
 use Rattle.table.specs.Answers.{firstOf, some}
-use Rattle.table.proofs.First.{first-next, first-none, none-refused}
+use Rattle.table.proofs.First.{Below, first-next, first-none, first-ext, none-refused}
 use Rattle.hash.proofs.Indicators.{true-or-false}
 
 pub some-of-none : (test : ℕ → Bool) → some 0 test ≡ false
@@ -37,3 +39,52 @@ some-end n i test le ge e = e ∙ ap (λ (x : ℕ). some x test) (le-antisymm le
 -- where it holds of none, there is no first one
 pub none-first : (n : ℕ) (test : ℕ → Bool) → some n test ≡ false → firstOf n test ≡ n
 none-first n test e = first-none n test (none-refused n test .0 e)
+
+-- tests that agree below n
+pub some-ext : (n : ℕ) (f g : ℕ → Bool) → ((i : ℕ) → i < n → f i ≡ g i) → some n f ≡ some n g
+some-ext n f g same = ap (λ (i : ℕ). ltb i n) (first-ext n f g same)
+
+pub some-suc : (i : ℕ) (test : ℕ → Bool) → some (suc i) test ≡ some i test || test i
+some-suc i test = ap (λ (x : ℕ). some x test) (sym (add-one i)) ∙ some-next i test
+
+pub or-false : (b : Bool) → b || false ≡ b
+or-false true = refl
+or-false false = refl
+
+or-assoc : (a b c : Bool) → a || (b || c) ≡ (a || b) || c
+or-assoc true b c = refl
+or-assoc false b c = refl
+
+-- the first n numbers, and the m after them
+some-add : (n m : ℕ) (test : ℕ → Bool) → some (n + m) test ≡ some n test || some m (λ t. test (n + t))
+some-add n zero test = ap (λ (x : ℕ). some x test) (add-zero n) ∙ sym (rw (some-of-none (λ t. test (n + t))) (or-false (some n test)))
+some-add n (suc m) test =
+    ap (λ (x : ℕ). some x test) (add-suc n m)
+    ∙ some-suc (n + m) test
+    ∙ ap (λ (b : Bool). b || test (n + m)) (some-add n m test)
+    ∙ sym (or-assoc (some n test) (some m (λ t. test (n + t))) (test (n + m)))
+    ∙ ap (λ (b : Bool). some n test || b) (sym (some-suc m (λ t. test (n + t))))
+
+-- those below n, and those from n to before m
+pub some-upto : (n m : ℕ) (test : ℕ → Bool) → n ≤ m → some n test || some (m - n) (λ t. test (n + t)) ≡ some m test
+some-upto n m test l = sym (some-add n (m - n) test) ∙ ap (λ (x : ℕ). some x test) (add-sub-of-le l)
+
+-- of two tests, one or the other
+pub some-or : (n : ℕ) (f g : ℕ → Bool) → some n f || some n g ≡ some n (λ t. f t || g t)
+some-or zero f g = rw (some-of-none f, some-of-none g, some-of-none (λ t. f t || g t)) refl
+some-or (suc n) f g =
+    rw (some-suc n f, some-suc n g, some-suc n (λ t. f t || g t), ← some-or n f g)
+    (four (some n f) (f n) (some n g) (g n))
+  where
+    four : (a b c d : Bool) → (a || b) || (c || d) ≡ (a || c) || (b || d)
+    four true b c d = refl
+    four false true true d = refl
+    four false true false d = refl
+    four false false c d = refl
+
+pub some-holds : (n : ℕ) (test : ℕ → Bool) → Below test n → some n test ≡ false
+some-holds n test = none-refused n test .1
+
+-- where it holds of none
+pub none-below : (n : ℕ) (test : ℕ → Bool) → some n test ≡ false → Below test n
+none-below n test = none-refused n test .0

@@ -1,3 +1,4 @@
--- The sizes that lookup and the crates above rely on, and a branch-free lookup's answer in one word.
+-- The sizes that lookup and the crates above rely on, the numbers that pass a test, and a branch-free lookup's answer in one word.
 pub mod Sized
+pub mod Choice
 pub mod OneWord

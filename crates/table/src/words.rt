@@ -94,7 +94,7 @@ pub fn block_start(words: &[u32], j: usize) -> u32
 }
 
 // Where block j ends: where the next one starts, the last at c.
-pub(crate) fn block_end(words: &[u32], j: usize) -> u32
+pub fn block_end(words: &[u32], j: usize) -> u32
     requires { ⌜ Block (now words) j ⌝ }
     ensures { λ r. ⌜ r ≡ blockEnd (now (words .entry)) j ⌝ }
 {

@@ -1,5 +1,5 @@
 -- In reading order: lists part by part and one after the other, and the words of a table in any state; one block; the blocks of codes, the first words,
--- and the pairs gathered; numbers that pass a test, the blocks that are listed and placed one after the other, and the whole.
+-- and the pairs gathered; the blocks that are listed and placed one after the other, and the whole.
 mod Parts
 mod Joined
 mod Laid
@@ -8,7 +8,6 @@ mod Blocks
 mod Groups
 mod Fronts
 mod Gathering
-mod Choosing
 mod Listing
 mod Sharing
 mod Totals

@@ -8,8 +8,8 @@ use borrow.Author.Tests.{eq-eqb, ne-eqb}
 use lib.ListN.{length, getD, drop, drop-of-length-le}
 use lib.Seq.{drop-cons}
 use Rattle.table.specs.Pairs.{among}
-use Rattle.writer.specs.code.Grouping.{chosen}
-use Rattle.writer.proofs.Choosing.{chosen-below, chosen-among, chosen-once}
+use Rattle.table.specs.code.Choice.{chosen}
+use Rattle.table.proofs.Choosing.{chosen-below, chosen-among, chosen-once}
 
 module _ (f : ℕ → Bool) (n : ℕ) {listed : List ℕ} (are : listed ≡ chosen f n) where
   -- what is pending when the first t are written
