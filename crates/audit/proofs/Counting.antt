@@ -1,8 +1,8 @@
 -- How many codes a run of cells holds: at most its cells, and those of a run and of the next add up.
 use Prim.Native.Nat.{ℕ, _+_, _<_, _≤_}
-use mathlib.Core.Bool.{Bool, true, false, cond}
+use mathlib.Core.Bool.{Bool, true, false, cond, not}
 use mathlib.Core.List.{List, [], _∷_, _++_}
-use mathlib.Core.Path.{_≡_, ap, _∙_}
+use mathlib.Core.Path.{_≡_, refl, ap, _∙_}
 use native.Mathlib.Numerals.{add-one}
 use native.Mathlib.Omega.{arith}
 use lib.Dec.{eqb}
@@ -13,6 +13,11 @@ use Rattle.audit.specs.Check.{codesIn}
 pub one-at-most : (b : Bool) → cond b 0 1 ≤ 1
 one-at-most true = omega arith
 one-at-most false = omega arith
+
+-- a cell that holds a code counts 1
+pub occupied-is : (b : Bool) → _≡_ {A = ℕ} (cond b 0 1) (cond (not b) 1 0)
+occupied-is true = refl
+occupied-is false = refl
 
 pub codes-le : (cells : List ℕ) → codesIn cells ≤ length cells
 unfolding codesIn

@@ -1,16 +1,17 @@
 // One block of a table by itself: its codes are handed on as the part of the words that belongs to it, and are counted and placed there.
-// Branch-free but for the length: whether a cell holds a code, and whether it is its own, is selected and not jumped on.
-ghost use Prim.Native.Nat.{_+_, _<_, _≤_};
-ghost use mathlib.Core.Bool.{cond};
-ghost use mathlib.Core.List.{[], _∷_};
+// Branch-free but for the lengths: whether a cell holds a code, and whether it is its own, is not jumped on.
+ghost use Prim.Native.Nat.{_<_, _≤_};
 ghost use mathlib.Core.Path.{_≡_};
 ghost use lib.ListN.{length};
 ghost use Rattle.hash.specs.code.Contract.{Hashing};
-ghost use Rattle.table.specs.Answers.{firstOf};
+ghost use Rattle.table.specs.Answers.{firstOf, some};
+ghost use Rattle.table.specs.code.Choice.{chosen};
 ghost use Rattle.table.specs.code.Sized.{Within};
-ghost use Rattle.audit.specs.code.Blocks.{elsewhere, notOwn, misplacedFrom, codePlaces, orZero, BlockHashed, BelowPrime, PlacesListed, Tested};
+ghost use Rattle.audit.specs.Check.{codesIn};
+ghost use Rattle.audit.specs.code.Blocks.{elsewhere, notOwn, holds, misplacedIn, Handed, PlacesListed, Tested};
 use hash::Hasher;
 use table::numbers::occupied;
+use table::numbers::one;
 use table::numbers::wide;
 
 // The hash of a block's codes into its cells, and the block's number.
@@ -20,37 +21,17 @@ pub struct BlockHash {
     pub cells: u32,
 }
 
-// What the test of some cells of a block finds: the first that holds a code and is not its own, the number of cells where there is none; and how
-// many codes there are.
+// What the test of some cells of a block finds: whether one holds a code and is not its own, and how many codes there are.
 pub struct BlockTest {
-    pub first: usize,
+    pub misplaced: bool,
     pub codes: usize,
 }
 
-pub(crate) fn select(holds: bool, yes: usize, no: usize) -> usize
-    ensures { λ r. ⌜ r ≡ cond holds yes no ⌝ }
-{
-    if holds {
-        return yes;
-    }
-    no
-}
-
-// A place in the list.
-fn listed(place: u16) -> usize
+// A number from a list.
+pub(crate) fn listed(place: u16) -> usize
     ensures { λ r. ⌜ Within place 65536 r ⌝ }
 {
     place as usize
-}
-
-// The part, or a word that is 0 where it is empty: so that a first cell can be read in any case, and the address is selected.
-fn or_zero<'a>(part: &'a [u32], zero: &'a [u32]) -> &'a [u32]
-    ensures { λ r. ⌜ now r ≡ orZero (now (part .entry)) (now (zero .entry)) ⌝ }
-{
-    if part.len() == 0 {
-        return zero;
-    }
-    part
 }
 
 // Code a belongs to another block than j.
@@ -63,26 +44,26 @@ fn elsewhere(h: Hasher, j: u32, a: u32) -> bool
 
 // Place t of the block is not code a's own.
 fn not_own(h: Hasher, b: BlockHash, t: usize, a: u32) -> bool
-    requires { ⌜ Hashing h × (BlockHashed h b × (a < h .prime)) ⌝ }
+    requires { ⌜ Hashing h × (a < h .prime) ⌝ }
+    requires { ⌜ (b .multiplier < h .prime) × (0 < b .cells) ⌝ }
     ensures { λ r. ⌜ r ≡ notOwn h b t a ⌝ }
 {
     let place = wide(hash::hash_below(h.prime, b.multiplier, b.cells, a));
     elsewhere(h, b.number, a) | (place != t)
 }
 
-// A block of at most one cell, where the place of every code is 0.
-fn test_few<'a>(h: Hasher, b: BlockHash, part: &'a [u32], zero: &'a [u32]) -> BlockTest
-    requires { ⌜ Hashing h × (BelowPrime h (now part) × ((length (now part) ≡ b .cells) × (b .cells < 2))) ⌝ }
-    requires { ⌜ now zero ≡ 0 ∷ [] ⌝ }
-    ensures { λ r. ⌜ Tested h b 0 (now (part .entry)) r ⌝ }
+// How many cells hold a code: in words, so that several are counted at once.
+pub(crate) fn count_codes(part: &[u32]) -> usize
+    requires { ⌜ length (now part) < 4294967296 ⌝ }
+    ensures { λ r. ⌜ r ≡ codesIn (now (part .entry)) ⌝ }
 {
-    let cells = or_zero(part, zero);
-    let a = cells[0];
-    let bad = (a != 0) & elsewhere(h, b.number, a);
-    BlockTest {
-        first: select(bad, 0, part.len()),
-        codes: occupied(a),
+    let mut codes: u32 = 0;
+    let mut t: usize = 0;
+    while t < part.len() {
+        codes += one(part[t] != 0);
+        t += 1;
     }
+    wide(codes)
 }
 
 // Lists the places that hold a code, by rising place, and gives their number.
@@ -101,73 +82,63 @@ fn list_codes(part: &[u32], list: &mut [u16]) -> usize
     count
 }
 
-// The first of the listed places that is not its code's own. The part begins at cell `from` of the block.
-fn first_listed(h: Hasher, b: BlockHash, from: usize, part: &[u32], list: &[u16]) -> usize
-    requires { ⌜ Hashing h × (BlockHashed h b × BelowPrime h (now part)) ⌝ }
-    requires { ⌜ (now list ≡ codePlaces (now part) (length (now part))) × (from + length (now part) < 4294967296) ⌝ }
-    ensures { λ r. ⌜ r ≡ firstOf (length (now (part .entry))) (misplacedFrom h b from (now (part .entry))) ⌝ }
+// Whether one of the listed places is not its code's own.
+fn some_misplaced(h: Hasher, b: BlockHash, part: &[u32], list: &[u16]) -> bool
+    requires { ⌜ Handed h b (now part) × (now list ≡ chosen (holds (now part)) (length (now part))) ⌝ }
+    ensures { λ r. ⌜ r ≡ some (length (now (part .entry))) (misplacedIn h b (now (part .entry))) ⌝ }
 {
-    let mut first = part.len();
-    let mut i = list.len();
-    while 0 < i {
-        i = i - 1;
+    let mut found = false;
+    let mut i: usize = 0;
+    while i < list.len() {
         let t = listed(list[i]);
-        let bad = not_own(h, b, from + t, part[t]);
-        first = select(bad, t, first);
+        found = found | not_own(h, b, t, part[t]);
+        i += 1;
     }
-    first
+    found
 }
 
-// Counts and places the codes of some cells of a block. Only the codes are placed: most cells of a block are empty.
-fn test_cells(h: Hasher, b: BlockHash, from: usize, part: &[u32], list: &mut [u16]) -> BlockTest
-    requires { ⌜ Hashing h × (BlockHashed h b × BelowPrime h (now part)) ⌝ }
-    requires { ⌜ (length (now part) ≤ length (now list)) × (from + length (now part) < 4294967296) ⌝ }
-    requires { ⌜ length (now list) < 65536 ⌝ }
-    ensures { λ r. ⌜ Tested h b from (now (part .entry)) r × (length (now (list .exit)) ≡ length (now (list .entry))) ⌝ }
+// The first place of a block that holds a code and is not its own, the number of cells where there is none.
+pub(crate) fn first_misplaced(h: Hasher, b: BlockHash, part: &[u32]) -> usize
+    requires { ⌜ Handed h b (now part) ⌝ }
+    ensures { λ r. ⌜ r ≡ firstOf (length (now (part .entry))) (misplacedIn h b (now (part .entry))) ⌝ }
 {
-    let codes = list_codes(part, list);
-    let first = first_listed(h, b, from, part, &list[..codes]);
-    BlockTest { first, codes }
+    let mut t: usize = 0;
+    while t < part.len() {
+        let a = part[t];
+        if (a != 0) & not_own(h, b, t, a) {
+            return t;
+        }
+        t += 1;
+    }
+    t
 }
 
-// A block of any cells, from its last cells to its first, as many at a time as can be listed.
-fn test_many(h: Hasher, b: BlockHash, part: &[u32], list: &mut [u16]) -> BlockTest
-    requires { ⌜ Hashing h × (BlockHashed h b × BelowPrime h (now part)) ⌝ }
-    requires { ⌜ (length (now part) < 4294967296) × ((0 < length (now list)) × (length (now list) < 65536)) ⌝ }
-    ensures { λ r. ⌜ Tested h b 0 (now (part .entry)) r × (length (now (list .exit)) ≡ length (now (list .entry))) ⌝ }
+// Counts and places the codes of a block that has one cell: the place of every code is 0.
+pub(crate) fn test_one(h: Hasher, b: BlockHash, part: &[u32]) -> BlockTest
+    requires { ⌜ Handed h b (now part) × (length (now part) ≡ 1) ⌝ }
+    ensures { λ r. ⌜ Tested h b (now (part .entry)) r ⌝ }
 {
-    let mut first = part.len();
-    let mut codes: usize = 0;
-    let mut e = part.len();
-    while list.len() < e {
-        let a = e - list.len();
-        let late = test_cells(h, b, a, &part[a..e], list);
-        first = select(late.first < e - a, a + late.first, first);
-        codes = codes + late.codes;
-        e = a;
-    }
-    let early = test_cells(h, b, 0, &part[..e], list);
+    let a = part[0];
     BlockTest {
-        first: select(early.first < e, early.first, first),
-        codes: codes + early.codes,
+        misplaced: (a != 0) & elsewhere(h, b.number, a),
+        codes: occupied(a),
     }
 }
 
-// Counts and places the codes of a block. The list is a scratch buffer; `zero` is one word, 0.
-pub(crate) fn test_block<'a>(
-    h: Hasher,
-    b: BlockHash,
-    part: &'a [u32],
-    list: &mut [u16],
-    zero: &'a [u32],
-) -> BlockTest
-    requires { ⌜ Hashing h × ((b .multiplier < h .prime) × (BelowPrime h (now part) × (length (now part) ≡ b .cells))) ⌝ }
-    requires { ⌜ (length (now part) < 4294967296) × ((0 < length (now list)) × (length (now list) < 65536)) ⌝ }
-    requires { ⌜ now zero ≡ 0 ∷ [] ⌝ }
-    ensures { λ r. ⌜ Tested h b 0 (now (part .entry)) r × (length (now (list .exit)) ≡ length (now (list .entry))) ⌝ }
+// Counts and places the codes of a block that has any cells. Only the codes are placed, by a list of their places, since most cells of a block are empty. The
+// list is a scratch buffer; a block that is too long for it is rare.
+pub(crate) fn test_block(h: Hasher, b: BlockHash, part: &[u32], list: &mut [u16]) -> BlockTest
+    requires { ⌜ Handed h b (now part) ⌝ }
+    requires { ⌜ length (now list) < 65536 ⌝ }
+    ensures { λ r. ⌜ Tested h b (now (part .entry)) r ⌝ }
 {
-    if part.len() < 2 {
-        return test_few(h, b, part, zero);
+    if list.len() < part.len() {
+        return BlockTest {
+            misplaced: first_misplaced(h, b, part) < part.len(),
+            codes: count_codes(part),
+        };
     }
-    test_many(h, b, part, list)
+    let codes = list_codes(part, list);
+    let misplaced = some_misplaced(h, b, part, &list[..codes]);
+    BlockTest { misplaced, codes }
 }

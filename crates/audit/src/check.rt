@@ -1,27 +1,26 @@
 // The check of a table from anywhere (document 01, "Check"): each test over the whole table before the next. Nothing here writes.
 ghost use Prim.Native.Nat.{_<_, _≤_};
+ghost use mathlib.Core.Bool.{true};
 ghost use mathlib.Core.Path.{_≡_};
-ghost use lib.ListN.{length};
-ghost use Rattle.table.specs.Words.{codeCount, total};
+ghost use Rattle.table.specs.Answers.{some};
+ghost use Rattle.table.specs.Limits.{mostPairs};
+ghost use Rattle.table.specs.Words.{codeCount};
 ghost use Rattle.table.specs.code.Sized.{Sized};
 ghost use Rattle.audit.specs.Check.{checkOf};
 ghost use Rattle.audit.specs.Checked.{checkedOf};
-ghost use Rattle.audit.specs.code.From.{fromSurvey, fromPlaces, fromStarts};
-ghost use Rattle.audit.specs.code.Starts.{Starts};
-ghost use Rattle.audit.specs.code.Blocks.{Ranged, HashOf, ExtentOf, PartTested, Surveyed};
-ghost use Rattle.table.specs.Limits.{mostPairs};
-use crate::blocks::BlockHash;
-use crate::blocks::BlockTest;
-use crate::blocks::select;
-use crate::blocks::test_block;
+ghost use Rattle.audit.specs.code.From.{fromCount, fromPlaces, fromStarts};
+ghost use Rattle.audit.specs.code.Blocks.{Lined, Ranged, HashOf};
+ghost use Rattle.audit.specs.code.Places.{unsound};
+use crate::blocks::count_codes;
+use crate::places::any_unsound;
+use crate::places::first_cell;
+use crate::places::first_unsquare;
 use crate::ranges::Range;
 use crate::ranges::first_bad;
 use hash::Hasher;
 use table::limits::MOST_PAIRS;
 use table::numbers::wide;
 use table::words::bad_multiplier;
-use table::words::block_multiplier;
-use table::words::block_start;
 use table::words::too_many_cells;
 use table::words::too_many_codes;
 use table::words::too_short;
@@ -54,21 +53,6 @@ pub enum Checked {
     WrongCount(u32),
 }
 
-// Block `number`: from cell start to before cell end.
-pub struct Extent {
-    pub number: usize,
-    pub start: usize,
-    pub end: usize,
-}
-
-// What one pass over the blocks finds: the first misplaced code, c where there is none; the first block of the wrong size, n where there is none;
-// and the number of codes.
-pub struct Survey {
-    pub first: usize,
-    pub square: usize,
-    pub codes: usize,
-}
-
 // The hash of a table's codes into its blocks.
 fn table_hash(p: u32, words: &[u32]) -> Hasher
     requires { ⌜ Sized p 65536 (now words) × (0 < codeCount (now words)) ⌝ }
@@ -82,76 +66,29 @@ fn table_hash(p: u32, words: &[u32]) -> Hasher
     }
 }
 
-// Hands the codes of a block on to its own test, as the part of the words between its start and its end. Block 0 starts at 0: that word is the 0
-// read where a block has no cells.
-fn test_part(h: Hasher, words: &[u32], x: Extent, list: &mut [u16]) -> BlockTest
-    requires { ⌜ Ranged (h .prime) 65536 (now words) × (HashOf (now words) h × ExtentOf (now words) x) ⌝ }
-    requires { ⌜ (0 < length (now list)) × (length (now list) < 65536) ⌝ }
-    ensures { λ r. ⌜ PartTested (h .prime) (now (words .entry)) (x .number) r × (length (now (list .exit)) ≡ length (now (list .entry))) ⌝ }
-{
-    let number = x.number;
-    let before = 3 + 2 * wide(h.places);
-    let a = before + x.start;
-    let e = before + x.end;
-    let b = BlockHash {
-        number: number as u32,
-        multiplier: block_multiplier(words, number),
-        cells: (x.end - x.start) as u32,
-    };
-    test_block(h, b, &words[a..e], list, &words[3..4])
-}
-
-// One pass over the blocks, from the last to the first: where a block ends is where the one seen before it starts, and what is found last comes
-// first in the table.
-fn survey_blocks(h: Hasher, words: &[u32]) -> Survey
+// 19 or 20, of a table of which one of them holds.
+fn refuse_block(h: Hasher, words: &[u32]) -> Checked
     requires { ⌜ Ranged (h .prime) 65536 (now words) × HashOf (now words) h ⌝ }
-    ensures { λ r. ⌜ Surveyed (h .prime) (now (words .entry)) r ⌝ }
+    requires { ⌜ some (codeCount (now words)) (unsound (h .prime) (now words)) ≡ true ⌝ }
+    ensures { λ r. ⌜ checkedOf r ≡ fromPlaces (h .prime) (now (words .entry)) ⌝ }
 {
-    let n = wide(words[0]);
-    let c = wide(words[1]);
-    let mut list = [0u16; 81];
-    let mut first = c;
-    let mut square = n;
-    let mut codes: usize = 0;
-    let mut end = c;
-    let mut j = n;
-    while 0 < j {
-        j = j - 1;
-        let start = wide(block_start(words, j));
-        let x = Extent {
-            number: j,
-            start,
-            end,
-        };
-        let b = test_part(h, words, x, &mut list);
-        let cells = end - start;
-        first = select(b.first < cells, start + b.first, first);
-        square = select(cells != b.codes * b.codes, j, square);
-        codes = codes + b.codes;
-        end = start;
+    let i = first_cell(h, words);
+    if i < wide(words[1]) {
+        return Checked::Misplaced(i as u32);
     }
-    Survey {
-        first,
-        square,
-        codes,
-    }
+    Checked::NotSquare(first_unsquare(words) as u32)
 }
 
-// From 19 on, with what the pass over the blocks found.
-fn settle(words: &[u32], s: Survey) -> Checked
-    requires { ⌜ (3 ≤ length (now words)) × ((total (now words) < 4294967296) × (s .codes < 4294967296)) ⌝ }
-    ensures { λ r. ⌜ checkedOf r ≡ fromSurvey (now (words .entry)) (s .first) (s .square) (s .codes) ⌝ }
+// From 21 on.
+fn check_count(words: &[u32]) -> Checked
+    requires { ⌜ Lined (now words) ⌝ }
+    ensures { λ r. ⌜ checkedOf r ≡ fromCount (now (words .entry)) ⌝ }
 {
-    let n = wide(words[0]);
-    let c = wide(words[1]);
-    if s.first < c {
-        return Checked::Misplaced(s.first as u32);
-    }
-    if s.square < n {
-        return Checked::NotSquare(s.square as u32);
-    }
-    if s.codes != n {
-        return Checked::WrongCount(s.codes as u32);
+    let start = 3 + 2 * wide(words[0]);
+    let end = start + wide(words[1]);
+    let codes = count_codes(&words[start..end]);
+    if codes != wide(words[0]) {
+        return Checked::WrongCount(codes as u32);
     }
     Checked::Accepted(words[0], total(words) as u32)
 }
@@ -164,7 +101,11 @@ fn check_places(p: u32, words: &[u32]) -> Checked
     if words[0] == 0 {
         return Checked::Accepted(0, 3);
     }
-    settle(words, survey_blocks(table_hash(p, words), words))
+    let h = table_hash(p, words);
+    if any_unsound(h, words) {
+        return refuse_block(h, words);
+    }
+    check_count(words)
 }
 
 // From 16 on.

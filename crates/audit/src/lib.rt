@@ -2,4 +2,5 @@
 mod blocks;
 pub mod check;
 pub mod numbered;
+mod places;
 mod ranges;

@@ -2,23 +2,25 @@
 use Prim.Native.Nat.{ℕ}
 use mathlib.Core.Bool.{not}
 use mathlib.Core.List.{List, [], _∷_}
-use lib.Dec.{eqb, ltb}
-use Rattle.table.specs.Answers.{Answer, given, refuse, refuseFirst, firstOf}
+use lib.Dec.{eqb}
+use Rattle.table.specs.Answers.{Answer, given, refuse, refuseFirst}
 use Rattle.table.specs.Words.{codeCount, cellCount, total}
 use Rattle.audit.specs.Check.{badStart, badBlockMultiplier, badCell, misplaced, badSquare, codesIn, allCodes}
 
--- from 19 on, with the first misplaced code, the first block of the wrong size and the number of codes
-abbrev pub fromSurvey : List ℕ → ℕ → ℕ → ℕ → Answer
-fromSurvey words first square codes =
-    refuse (ltb first (cellCount words)) 19 first
-    (refuse (ltb square (codeCount words)) 20 square
-    (refuse (not (eqb codes (codeCount words))) 21 codes
-    (given (codeCount words ∷ total words ∷ []))))
+-- from 21 on
+unfoldable pub fromCount : List ℕ → Answer
+unfolding codesIn
+fromCount words =
+    refuse (not (eqb (codesIn (allCodes words)) (codeCount words))) 21 (codesIn (allCodes words))
+    (given (codeCount words ∷ total words ∷ []))
 
+-- from 19 on
 unfoldable pub fromPlaces : ℕ → List ℕ → Answer
-unfolding misplaced codesIn badSquare
+unfolding misplaced badSquare fromCount
 fromPlaces p words =
-    fromSurvey words (firstOf (cellCount words) (misplaced p words)) (firstOf (codeCount words) (badSquare words)) (codesIn (allCodes words))
+    refuseFirst (cellCount words) (misplaced p words) 19
+    (refuseFirst (codeCount words) (badSquare words) 20
+    (fromCount words))
 
 -- from 16 on
 unfoldable pub fromStarts : ℕ → List ℕ → Answer

@@ -6,7 +6,7 @@ use borrow.Author.Needs.{needs}
 use lib.Dec.{eqb}
 use lib.ListN.{length, getD}
 use Rattle.audit.proofs.Counting.{one-at-most}
-use Rattle.audit.proofs.Places.{ListedBelow, listed-none, listed-next, listed-all}
+use Rattle.audit.proofs.Occupied.{ListedBelow, listed-none, listed-next, listed-all}
 use Rattle.audit.proofs.blocks.list_codes.Statement.{statement}
 use Rattle.audit.proofs.blocks.list_codes.Tie as tie
 
