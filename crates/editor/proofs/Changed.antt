@@ -8,16 +8,17 @@ use lib.ListN.{length, set, take, drop, length-map, length-set, length-append, l
 use lib.Seq.{take-at, length-take-le}
 use Rattle.hash.proofs.Orders.{perm-length}
 use Rattle.table.specs.Pairs.{Pair, codesOf}
-use Rattle.table.specs.Words.{codeCount, cellCount}
+use Rattle.table.specs.Words.{codeCount, cellCount, total}
 use Rattle.audit.specs.Check.{allCodes}
 use Rattle.reader.specs.Pairs.{allSchedules, stored, pairsIn}
 use Rattle.reader.proofs.Rising.{rising-perm}
 use Rattle.search.specs.code.Searchable.{Searchable}
 use Rattle.writer.specs.code.Valid.{ValidBuilt}
 use Rattle.editor.specs.Edit.{without}
-use Rattle.editor.specs.code.Changes.{others, changed, Gatherable, Gathered, Changing, Roomy, Listed, ChangedBuilt}
+use Rattle.editor.specs.code.Changes.{otherCount, others, changed, Gatherable, Gathered, Changing, Roomy, Listed, ChangedBuilt}
 use Rattle.editor.specs.declared.changes.Change.{Change}
 use Rattle.editor.proofs.Others.{without-perm}
+use Rattle.editor.proofs.Gathering.{others-count}
 use Rattle.editor.proofs.Reordered.{codes-long, schedules-long, same-long, searchable-order, built-order}
 
 -- ---- the pairs of a table, by rising code and by rising cell
@@ -94,6 +95,18 @@ module _ (words : List ℕ) (n c : ℕ) (codes-are : n ≡ codeCount words) (cel
   held-are-all : held ≡ allSchedules words
   held-are-all = let e : start + c + c - (start + c) ≡ cellCount words = omega arith in rw (e, codes-are, cells-are)
 
+  held-same : total words ≤ length words → length (allSchedules words) ≡ length (allCodes words)
+  held-same whole =
+      length-take-le (cellCount words) (drop (3 + 2 * codeCount words + cellCount words) words) (rw length-drop (omega arith))
+      ∙ sym (length-take-le (cellCount words) (drop (3 + 2 * codeCount words) words) (rw length-drop (omega arith)))
+
+  pub counted : (code : ℕ) → total words ≤ length words → otherCount code cells ≡ length (without code (pairsIn words))
+  unfolding others
+  counted code whole =
+      ap (otherCount code) cells-are-all
+      ∙ sym (others-count code (allCodes words) (allSchedules words) (held-same whole))
+      ∙ sym (perm-length (without-perm code (pairs-perm words)))
+
   module _ {x : Change} (h : Changing words x) {codes schedules : List ℕ} (r : Roomy x codes schedules) where
     others-long : x .others ≡ length (others (x .code) (allCodes words) (allSchedules words))
     unfolding others
@@ -103,9 +116,7 @@ module _ (words : List ℕ) (n c : ℕ) (codes-are : n ≡ codeCount words) (cel
     gatherable =
         rw (cells-are-all, held-are-all)
         (record {
-          same =
-              length-take-le (cellCount words) (drop (3 + 2 * codeCount words + cellCount words) words) (rw length-drop (omega (arith, h .whole)))
-              ∙ sym (length-take-le (cellCount words) (drop (3 + 2 * codeCount words) words) (rw length-drop (omega (arith, h .whole))));
+          same = held-same (h .whole);
           codes-long = places-long x codes (x .code) (r .codes-long) ∙ others-long;
           schedules-long = places-long x schedules (x .schedule) (omega (arith, r .codes-long, r .same)) ∙ others-long;
         })

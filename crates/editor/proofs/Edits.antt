@@ -3,32 +3,23 @@
 use Prim.Native.Nat.{ℕ, suc, _<_, _≤_}
 use native.Mathlib.Decide.{decLt}
 use native.Mathlib.Omega.{arith}
-use mathlib.Core.Bool.{true, false, not, _&&_, or-true}
-use mathlib.Core.List.{List, [], _∷_, List·Memᴰ, List·Memᴰ·cases-cons, List·Memᴰ·not-nil, Memᴰ·map, Memᴰ·of-map}
+use mathlib.Core.Bool.{true, not, _&&_, or-true}
+use mathlib.Core.List.{List, [], _∷_, List·Memᴰ, List·Memᴰ·cases-cons, List·Memᴰ·not-nil, Memᴰ·map}
 use mathlib.Core.Logic.{⊎-elim}
-use mathlib.Core.Path.{_≡_, refl, sym, ap, _∙_}
-use denote.Enum.Declared.{tagOf}
-use types.Run.{OneOf, miss}
-use borrow.Author.Tests.{lt-ltb, le-ltb, eq-eqb, ne-eqb, ltb-true, ltb-false}
+use mathlib.Core.Path.{_≡_, sym, ap, _∙_}
+use borrow.Author.Tests.{lt-ltb, le-ltb, eq-eqb, ne-eqb, ltb-true}
 use lib.Dec.{eqb, ltb}
 use lib.ListN.{length}
 use Rattle.hash.specs.Theorems.{Prime}
-use Rattle.hash.proofs.Members.{mem-at}
 use Rattle.table.specs.Answers.{Answer, given, refused}
-use Rattle.table.specs.Found.{foundOf}
 use Rattle.table.specs.Limits.{room}
 use Rattle.table.specs.Lookup.{lookupOf}
 use Rattle.table.specs.Pairs.{Pair, codesOf, schedulesOf, among}
 use Rattle.table.specs.Words.{codeCount}
 use Rattle.table.specs.TwoLevel.{wordsNeeded}
-use Rattle.table.specs.declared.lookup.Found.{Found}
-use Rattle.table.specs.declared.lookup.Found.the-variants.{Schedule, Absent, CodeOutOfRange, TooFewWords, BadSizes, BadBlock}
-use Rattle.table.proofs.Among.{among-none}
-use Rattle.table.proofs.Refusals.{never-both}
-use Rattle.table.proofs.lookup.Found.{the-type}
 use Rattle.audit.specs.WellFormed.{WellFormed}
 use Rattle.reader.specs.Pairs.{pairsIn}
-use Rattle.reader.proofs.PairLaws.{pairs-length, pairs-codes, pairs-found, found-pairs}
+use Rattle.reader.proofs.PairLaws.{pairs-length, pairs-codes, found-pairs}
 use Rattle.search.specs.code.Searchable.{Searchable}
 use Rattle.writer.specs.code.Valid.{ValidBuilt}
 use Rattle.editor.specs.Edit.{without, withPair, present, rebuilt}
@@ -60,15 +51,6 @@ module _ {p : ℕ} (xs : List Pair) {second second′ : List ℕ} {total : ℕ} 
 
 -- ---- whether the code is there
 
--- every case of a lookup's answer but the first
-pub not-found : (r : Found) → OneOf (1 ∷ 2 ∷ 3 ∷ 4 ∷ 5 ∷ []) (tagOf the-type r) → (s : ℕ) → foundOf r ≡ given (s ∷ []) → ⊥
-not-found (Schedule s) k t e = absurd (miss (1 ∷ 2 ∷ 3 ∷ 4 ∷ 5 ∷ []) 0 tt k)
-not-found Absent k t e = let z : _≡_ {A = ℕ} 0 1 = cc in absurd (omega arith)
-not-found CodeOutOfRange k t e = never-both refl e
-not-found TooFewWords k t e = never-both refl e
-not-found BadSizes k t e = never-both refl e
-not-found BadBlock k t e = never-both refl e
-
 mem-among : {a : ℕ} (s : List ℕ) → List·Memᴰ a s → among a s ≡ true
 unfolding among
 mem-among [] m = absurd (List·Memᴰ·not-nil m)
@@ -95,16 +77,6 @@ module _ {p limit : ℕ} {words : List ℕ} (f : WellFormed p limit words) (code
       let there : among code (codesOf (pairsIn words)) ≡ true
       = mem-among (codesOf (pairsIn words)) (Memᴰ·map (λ (x : Pair). x .code) (found-pairs f {r = record { code = code; schedule = s }} e)) in
       omega (arith, left-ge, ltb-true left (codeCount words) (sym present-is ∙ there))
-
-  pub left-absent : ((s : ℕ) → lookupOf p limit words code ≡ given (s ∷ []) → ⊥) → left ≡ codeCount words
-  unfolding present
-  left-absent none =
-      let gone : among code (codesOf (pairsIn words)) ≡ false
-      = among-none code (codesOf (pairsIn words))
-      (λ i l e.
-      let (r, m, same) = Memᴰ·of-map (λ (x : Pair). x .code) (pairsIn words) (mem-at (codesOf (pairsIn words)) i l) in
-      none (r .schedule) (ap (lookupOf p limit words) (sym (same ∙ e)) ∙ pairs-found f m)) in
-      omega (arith, left-le, ltb-false left (codeCount words) (sym present-is ∙ gone))
 
   -- ---- put in
 

@@ -13,7 +13,7 @@ use lib.Seq.{take-all, take-suc-set, take-set-le, drop-cons}
 use Rattle.table.specs.Pairs.{Pair, paired, pairsWhere}
 use Rattle.reader.specs.Pairs.{stored}
 use Rattle.editor.specs.Edit.{without}
-use Rattle.editor.specs.code.Changes.{isOther, others, Gatherable, Gathered}
+use Rattle.editor.specs.code.Changes.{isOther, otherCount, others, Gatherable, Gathered}
 
 -- ---- one list, of a number g of each pair: k of them stand in it, and these pairs are left
 
@@ -48,6 +48,10 @@ module _ {g : Pair → ℕ} {all : List Pair} {k : ℕ} {list : List ℕ} where
 
 -- ---- the cells
 
+one-at-most : (b : Bool) → cond b 1 0 ≤ 1
+one-at-most true = omega arith
+one-at-most false = omega arith
+
 module _ (code : ℕ) where
   -- a cell and those after it
   others-cons :
@@ -56,6 +60,40 @@ module _ (code : ℕ) where
       ≡ cond (isOther code a) (record { code = a; schedule = s } ∷ others code cells held) (others code cells held)
   unfolding others without stored paired pairsWhere
   others-cons a s cells held = elim (ℕ-discrete a 0) [ yes e ↦ rw (eq-eqb a 0 e) | no ne ↦ rw (ne-eqb a 0 ne) ]
+
+  -- ---- how many
+
+  pub count-le : (cells : List ℕ) → otherCount code cells ≤ length cells
+  unfolding otherCount
+  count-le [] = omega arith
+  count-le (a ∷ cells) = omega (arith, count-le cells, one-at-most (isOther code a))
+
+  pub count-from :
+      (cells : List ℕ) (i : ℕ) → i < length cells
+      → otherCount code (drop i cells) ≡ cond (isOther code (getD cells i 0)) 1 0 + otherCount code (drop (i + 1) cells)
+  unfolding otherCount
+  count-from cells i l = rw (add-one i, drop-cons cells i 0 l) refl
+
+  pub count-end : (cells : List ℕ) (i : ℕ) → length cells ≤ i → otherCount code (drop i cells) ≡ 0
+  unfolding otherCount
+  count-end cells i l = rw (drop-of-length-le cells {i = i} l) refl
+
+  pub others-count : (cells held : List ℕ) → length held ≡ length cells → length (others code cells held) ≡ otherCount code cells
+  unfolding otherCount others without stored paired pairsWhere
+  others-count [] [] e = refl
+  others-count [] (s ∷ held) e = absurd (omega arith)
+  others-count (a ∷ cells) [] e = absurd (omega arith)
+  others-count (a ∷ cells) (s ∷ held) e =
+      ap length (others-cons a s cells held) ∙ chosen (isOther code a) ∙ ap (λ (x : ℕ). cond (isOther code a) 1 0 + x) (others-count cells held (omega arith))
+    where
+      chosen :
+          (b : Bool)
+          → length (cond b (record { code = a; schedule = s } ∷ others code cells held) (others code cells held))
+          ≡ cond b 1 0 + length (others code cells held)
+      chosen true = omega arith
+      chosen false = omega arith
+
+  -- ---- the pairs
 
   pub record Gathering (cells held codes schedules : List ℕ) (i k : ℕ) : Type 0 where
     pub within : i ≤ length cells

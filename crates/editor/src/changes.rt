@@ -1,11 +1,14 @@
 // The list that an edit makes of an old table's pairs, and its table. No pairs are sorted: any order of the same pairs has the same table.
-ghost use Prim.Native.Nat.{_+_, _≤_};
+ghost use Prim.Native.Nat.{_+_, _<_, _≤_};
 ghost use mathlib.Core.Bool.{cond};
 ghost use mathlib.Core.Path.{_≡_};
+ghost use lib.ListN.{length};
 ghost use Rattle.search.specs.code.Searchable.{Searchable};
 ghost use Rattle.table.specs.Pairs.{codesOf};
+ghost use Rattle.table.specs.Words.{total};
 ghost use Rattle.reader.specs.Pairs.{pairsIn};
-ghost use Rattle.editor.specs.code.Changes.{isOther, others, changed, Gatherable, Gathered, Changing, Roomy, Listed, ChangedBuilt};
+ghost use Rattle.editor.specs.Edit.{without};
+ghost use Rattle.editor.specs.code.Changes.{isOther, otherCount, others, changed, Gatherable, Gathered, Changing, Roomy, Listed, ChangedBuilt};
 use table::limits::FEW;
 use table::limits::ROOM;
 use table::numbers::one;
@@ -22,10 +25,34 @@ pub(crate) struct Change {
 }
 
 // 1 for a cell that holds a code other than this one, 0 for any other cell.
-fn other(a: u32, code: u32) -> usize
+fn other(a: u32, code: u32) -> u32
     ensures { λ r. ⌜ (r ≡ cond (isOther code a) 1 0) × (r ≤ 1) ⌝ }
 {
-    wide(one((a != 0) & (a != code)))
+    one((a != 0) & (a != code))
+}
+
+// How many cells hold a code other than this one.
+fn count_cells(cells: &[u32], code: u32) -> u32
+    requires { ⌜ length (now cells) < 4294967296 ⌝ }
+    ensures { λ r. ⌜ r ≡ otherCount code (now (cells .entry)) ⌝ }
+{
+    let mut count: u32 = 0;
+    let mut i: usize = 0;
+    while i < cells.len() {
+        count += other(cells[i], code);
+        i += 1;
+    }
+    count
+}
+
+// How many pairs of a table have other codes.
+pub(crate) fn count_others(words: &[u32], code: u32) -> usize
+    requires { ⌜ total (now words) ≤ length (now words) ⌝ }
+    ensures { λ r. ⌜ r ≡ length (without code (pairsIn (now (words .entry)))) ⌝ }
+{
+    let start = 3 + 2 * wide(words[0]);
+    let end = start + wide(words[1]);
+    wide(count_cells(&words[start..end], code))
 }
 
 // Writes the pairs of the cells that hold a code other than this one, by rising cell. There are as many as places. Every cell is stored, and
@@ -40,7 +67,7 @@ fn gather_others(cells: &[u32], held: &[u32], code: u32, codes: &mut [u32], sche
         let a = cells[i];
         codes[k] = a;
         schedules[k] = held[i];
-        k += other(a, code);
+        k += wide(other(a, code));
         i += 1;
     }
 }

@@ -1,24 +1,21 @@
 // Putting one code in and taking one out, into a second buffer (document 01, "Put in, take out"). The old table is read only.
 ghost use Prim.Native.Nat.{_≤_};
-ghost use mathlib.Core.Path.{_≡_};
-ghost use lib.ListN.{length};
 ghost use Rattle.hash.specs.Theorems.{Prime};
 ghost use Rattle.search.specs.code.Searchable.{Searchable};
 ghost use Rattle.table.specs.Limits.{room, mostPairs};
 ghost use Rattle.table.specs.Pairs.{codesOf};
 ghost use Rattle.audit.specs.WellFormed.{WellFormed};
 ghost use Rattle.reader.specs.Pairs.{pairsIn};
-ghost use Rattle.editor.specs.Edit.{without, Inserted, Removed};
+ghost use Rattle.editor.specs.Edit.{Inserted, Removed};
 ghost use Rattle.editor.specs.Edited.{editedOf};
 ghost use Rattle.editor.specs.code.Changes.{changed, Changing};
 ghost use Rattle.editor.specs.code.Editing.{InRange, Rebuilding, PutIn, TakenOut};
 use crate::changes::Change;
+use crate::changes::count_others;
 use crate::changes::write_changed;
 use audit::check::Checked;
 use audit::check::check_for;
 use table::limits::MOST_PAIRS;
-use table::lookup::Found;
-use table::lookup::lookup_for;
 use table::numbers::outside;
 use table::numbers::wide;
 
@@ -37,19 +34,6 @@ pub enum Edited {
     NotThere,
     // 11 to 21, of the old table
     Refused(Checked),
-}
-
-// How many pairs of other codes an accepted table has: one less than n where a lookup finds the code.
-fn count_others(p: u32, limit: u32, words: &[u32], code: u32) -> usize
-    requires { ⌜ WellFormed p limit (now words) ⌝ }
-    ensures { λ r. ⌜ r ≡ length (without code (pairsIn (now (words .entry)))) ⌝ }
-{
-    let n = wide(words[0]);
-    let found = lookup_for(p, limit, words, code);
-    let Found::Schedule(_) = found else {
-        return n;
-    };
-    n - 1
 }
 
 // From 54 on: builds the changed list.
@@ -74,7 +58,7 @@ fn put_in(p: u32, limit: u32, words: &[u32], code: u32, schedule: u32, second: &
     requires { ⌜ InRange p code schedule ⌝ }
     ensures { λ r. ⌜ PutIn p limit (now (words .entry)) code schedule (now (second .entry)) (editedOf r) (now (second .exit)) ⌝ }
 {
-    let others = count_others(p, limit, words, code);
+    let others = count_others(words, code);
     if others == wide(limit) {
         return Edited::Full;
     }
@@ -94,7 +78,7 @@ fn take_out(p: u32, limit: u32, words: &[u32], code: u32, second: &mut [u32]) ->
     requires { ⌜ WellFormed p limit (now words) ⌝ }
     ensures { λ r. ⌜ TakenOut p (now (words .entry)) code (now (second .entry)) (editedOf r) (now (second .exit)) ⌝ }
 {
-    let others = count_others(p, limit, words, code);
+    let others = count_others(words, code);
     if others == wide(words[0]) {
         return Edited::NotThere;
     }

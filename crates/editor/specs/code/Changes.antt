@@ -1,6 +1,6 @@
 -- The list that an edit makes of an old table's pairs: what the code that gathers and writes it relies on and promises.
 use Prim.Native.Nat.{ℕ, _+_, _≤_}
-use mathlib.Core.Bool.{Bool, not, _&&_}
+use mathlib.Core.Bool.{Bool, cond, not, _&&_}
 use mathlib.Core.List.{List, [], _∷_, _++_}
 use mathlib.Core.Path.{_≡_}
 use lib.Dec.{eqb}
@@ -16,6 +16,11 @@ use Rattle.editor.specs.declared.changes.Change.{Change}
 -- a cell with word a holds a code other than this one
 abbrev pub isOther : ℕ → ℕ → Bool
 isOther code a = not (eqb a 0) && not (eqb a code)
+
+-- how many cells do
+unfoldable pub otherCount : ℕ → List ℕ → ℕ
+otherCount code [] = 0
+otherCount code (a ∷ cells) = cond (isOther code a) 1 0 + otherCount code cells
 
 -- the pairs of such cells, by rising cell
 unfoldable pub others : ℕ → List ℕ → List ℕ → List Pair

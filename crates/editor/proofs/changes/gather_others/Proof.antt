@@ -30,19 +30,16 @@ slice-write-schedules : tie.Need-slice-write-schedules Inv-loop μ-loop
 slice-write-schedules c = omega (arith, gathering-sizes _ (c .before .before .before .loop .inv), c .before .before .loop-test .taken)
 
 add-k : tie.Need-add-k Inv-loop μ-loop
-add-k c = omega (arith, c .other .ensures .1, c .before .before .before .loop-test .taken)
+add-k c = omega (arith, c .wide .ensures .value, c .before .other .ensures .1, c .before .before .before .before .loop-test .taken)
 
 add-i : tie.Need-add-i Inv-loop μ-loop
-add-i c = omega (arith, gathering-more _ (c .before .before .before .before .loop .inv) (c .before .before .before .loop-test .taken))
+add-i c = omega (arith, gathering-more _ (c .before .before .before .before .before .loop .inv) (c .before .before .before .before .loop-test .taken))
 
 loop-less : tie.Need-loop-less Inv-loop μ-loop
-loop-less c =
-    let at = c .before .before .before .before in
-    omega (arith, gathering-more _ (at .loop .inv) (c .before .before .before .loop-test .taken))
+loop-less c = omega (arith, gathering-more _ (c .before .before .before .before .before .loop .inv) (c .before .before .before .before .loop-test .taken))
 
 loop-again : tie.Need-loop-again Inv-loop μ-loop
-loop-again c =
-    rw (c .other .ensures .0) (gathering-next _ (c .before .before .before .before .loop .inv) (c .before .before .before .loop-test .taken))
+loop-again c = rw (c .wide .ensures .value, c .before .other .ensures .0) (gathering-next _ (c .before .before .before .before .before .loop .inv) (c .before .before .before .before .loop-test .taken))
 
 same-length : tie.Need-same-length Inv-loop μ-loop
 same-length c = c .before .loop .inv .codes-filled .whole ∙ sym (c .before .before .before .before .before .before .pre .codes-long)
@@ -68,6 +65,7 @@ gather-others-spec =
     shared-slice-read-schedules
     (λ c. search needs)
     slice-write-schedules
+    (λ c κs. search needs)
     (λ c κs. search needs)
     add-k
     add-i
