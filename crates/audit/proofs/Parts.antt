@@ -19,7 +19,8 @@ use Rattle.audit.specs.Check.{misplaced, badSquare, codesIn, blockCodes}
 use Rattle.audit.specs.code.Starts.{Starts}
 use Rattle.audit.proofs.Counting.{codes-le}
 use Rattle.audit.proofs.Partition.{block-lt, edge-start, apart, end-within, cell-lt}
-use Rattle.audit.specs.code.Blocks.{notOwn, misplacedIn, Handed, Tested, Lined, Ranged, HashOf, BlockHashOf}
+use Rattle.table.specs.code.Sized.{HashOf}
+use Rattle.audit.specs.code.Blocks.{notOwn, misplacedIn, Handed, Tested, Lined, Ranged, BlockHashOf}
 use Rattle.audit.specs.code.Places.{cellsOf, unsound}
 use Rattle.hash.specs.declared.Hasher.{Hasher}
 use Rattle.audit.specs.declared.blocks.BlockHash.{BlockHash}

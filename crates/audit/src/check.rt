@@ -5,11 +5,11 @@ ghost use mathlib.Core.Path.{_≡_};
 ghost use Rattle.table.specs.Answers.{some};
 ghost use Rattle.table.specs.Limits.{mostPairs};
 ghost use Rattle.table.specs.Words.{codeCount};
-ghost use Rattle.table.specs.code.Sized.{Sized};
+ghost use Rattle.table.specs.code.Sized.{Sized, HashOf};
 ghost use Rattle.audit.specs.Check.{checkOf};
 ghost use Rattle.audit.specs.Checked.{checkedOf};
 ghost use Rattle.audit.specs.code.From.{fromCount, fromPlaces, fromStarts};
-ghost use Rattle.audit.specs.code.Blocks.{Lined, Ranged, HashOf};
+ghost use Rattle.audit.specs.code.Blocks.{Lined, Ranged};
 ghost use Rattle.audit.specs.code.Places.{unsound};
 use crate::blocks::count_codes;
 use crate::places::any_unsound;
@@ -21,6 +21,7 @@ use hash::Hasher;
 use table::limits::MOST_PAIRS;
 use table::numbers::wide;
 use table::words::bad_multiplier;
+use table::words::table_hash;
 use table::words::too_many_cells;
 use table::words::too_many_codes;
 use table::words::too_short;
@@ -51,19 +52,6 @@ pub enum Checked {
     NotSquare(u32),
     // 21, with the codes found
     WrongCount(u32),
-}
-
-// The hash of a table's codes into its blocks.
-fn table_hash(p: u32, words: &[u32]) -> Hasher
-    requires { ⌜ Sized p 65536 (now words) × (0 < codeCount (now words)) ⌝ }
-    ensures { λ r. ⌜ HashOf (now (words .entry)) r × (r .prime ≡ p) ⌝ }
-{
-    Hasher {
-        prime: p,
-        multiplier: words[2],
-        places: words[0],
-        reciprocal: hash::reciprocal(p, words[0]),
-    }
 }
 
 // 19 or 20, of a table of which one of them holds.

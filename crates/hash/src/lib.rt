@@ -31,7 +31,7 @@ fn product(k: u32, a: u32) -> u64
     (k as u64) * (a as u64)
 }
 
-// (k × a) mod p of numbers below p, as the multipliers and codes of a table that passed its tests are: none of them is tested here.
+// (k × a) mod p. Multipliers and codes are below p wherever they are hashed, so none is tested here.
 pub fn residue_below(p: u32, k: u32, a: u32) -> u32
     requires { ⌜ k < p ⌝ }
     requires { ⌜ a < p ⌝ }
@@ -42,26 +42,6 @@ pub fn residue_below(p: u32, k: u32, a: u32) -> u32
         return by_halves(x);
     }
     (x % (p as u64)) as u32
-}
-
-// The same of any words.
-fn residue(p: u32, k: u32, a: u32) -> u32
-    requires { ⌜ 0 < p ⌝ }
-    ensures { λ r. ⌜ Remainder (k * a) p r ⌝ }
-{
-    if k < p && a < p {
-        return residue_below(p, k, a);
-    }
-    (product(k, a) % (p as u64)) as u32
-}
-
-// The place of code a among w places: ((k × a) mod p) mod w.
-pub fn hash(p: u32, k: u32, w: u32, a: u32) -> u32
-    requires { ⌜ 0 < p ⌝ }
-    requires { ⌜ 0 < w ⌝ }
-    ensures { λ r. ⌜ Hashed p k w a r ⌝ }
-{
-    residue(p, k, a) % w
 }
 
 // The precomputed reciprocal of w, for many remainders of numbers below p: 2^32 / w rounded up, or 0 where w or p is too large for that.
@@ -91,16 +71,7 @@ fn remainder_by(p: u32, w: u32, reciprocal: u64, x: u32) -> u32
     x - quotient * w
 }
 
-// The hash, for many codes among the same places.
-pub fn hash_by(p: u32, k: u32, w: u32, reciprocal: u64, a: u32) -> u32
-    requires { ⌜ 0 < p ⌝ }
-    requires { ⌜ Ready p w reciprocal ⌝ }
-    ensures { λ r. ⌜ Hashed p k w a r ⌝ }
-{
-    remainder_by(p, w, reciprocal, residue(p, k, a))
-}
-
-// The hash of numbers below p.
+// The place of code a among w places: ((k × a) mod p) mod w.
 pub fn hash_below(p: u32, k: u32, w: u32, a: u32) -> u32
     requires { ⌜ k < p ⌝ }
     requires { ⌜ a < p ⌝ }
@@ -110,7 +81,7 @@ pub fn hash_below(p: u32, k: u32, w: u32, a: u32) -> u32
     residue_below(p, k, a) % w
 }
 
-// The hash of a code below p, for many codes among the same places.
+// The same for many codes among the same places.
 pub fn hash_below_by(h: Hasher, a: u32) -> u32
     requires { ⌜ Hashing h ⌝ }
     requires { ⌜ a < h .prime ⌝ }

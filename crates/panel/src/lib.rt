@@ -2,10 +2,8 @@
 ghost use Prim.Native.Nat.{_≤_};
 ghost use mathlib.Core.Path.{_≡_};
 ghost use lib.ListN.{length};
-ghost use Rattle.hash.specs.code.Contract.{Ready};
-ghost use Rattle.table.specs.Words.{codeCount};
 ghost use Rattle.table.specs.Lookup.{lookupOf};
-ghost use Rattle.table.specs.code.Sized.{WithBlocks};
+ghost use Rattle.table.specs.code.Sized.{WithBlocks, HashOf};
 ghost use Rattle.panel.specs.Panel.{walkOf, panelOf};
 ghost use Rattle.table.specs.Found.{foundOf};
 ghost use Rattle.panel.specs.Fired.{firedOf};
@@ -14,6 +12,7 @@ ghost use Rattle.table.specs.Limits.{mostPairs};
 
 pub mod numbered;
 
+use hash::Hasher;
 use table::limits::MOST_PAIRS;
 use table::lookup::Found;
 use table::lookup::in_block;
@@ -22,6 +21,7 @@ use table::numbers::larger;
 use table::numbers::outside;
 use table::numbers::wide;
 use table::words::has_blocks;
+use table::words::table_hash;
 
 pub enum Fired {
     Schedule(u32),
@@ -52,16 +52,16 @@ fn ended(f: Found, i: u32) -> Fired
     }
 }
 
-// The answer for one code of a panel: the sizes are tested before, and the reciprocal of the number of blocks is precomputed.
-fn lookup_in(p: u32, limit: u32, words: &[u32], reciprocal: u64, code: u32) -> Found
-    requires { ⌜ (1 ≤ p) × (WithBlocks p limit (now words) × Ready p (codeCount (now words)) reciprocal) ⌝ }
-    ensures { λ r. ⌜ foundOf r ≡ lookupOf p limit (now (words .entry)) code ⌝ }
+// The answer for one code of a panel: the sizes are tested before, and the hash into the blocks is the same for all codes.
+fn lookup_in(h: Hasher, limit: u32, words: &[u32], code: u32) -> Found
+    requires { ⌜ WithBlocks (h .prime) limit (now words) × HashOf (now words) h ⌝ }
+    ensures { λ r. ⌜ foundOf r ≡ lookupOf (h .prime) limit (now (words .entry)) code ⌝ }
 {
-    if outside(1, p - 1, code) {
+    if outside(1, h.prime - 1, code) {
         return Found::CodeOutOfRange;
     }
-    let j = wide(hash::hash_by(p, words[2], words[0], reciprocal, code));
-    in_block(p, words, code, j)
+    let j = wide(hash::hash_below_by(h, code));
+    in_block(h.prime, words, code, j)
 }
 
 // The codes looked up in their order: the first one absent or refused ends it, otherwise the largest schedule found.
@@ -69,11 +69,11 @@ fn walk(p: u32, limit: u32, words: &[u32], codes: &[u32]) -> Fired
     requires { ⌜ (1 ≤ p) × (WithBlocks p limit (now words) × (length (now codes) ≤ 64)) ⌝ }
     ensures { λ r. ⌜ firedOf r ≡ walkOf p limit (now (words .entry)) (now (codes .entry)) 0 0 ⌝ }
 {
-    let reciprocal = hash::reciprocal(p, words[0]);
+    let h = table_hash(p, words);
     let mut largest: u32 = 0;
     let mut i: usize = 0;
     while i < codes.len() {
-        let f = lookup_in(p, limit, words, reciprocal, codes[i]);
+        let f = lookup_in(h, limit, words, codes[i]);
         let Found::Schedule(s) = f else {
             return ended(f, i as u32);
         };

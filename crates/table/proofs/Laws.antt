@@ -1,6 +1,6 @@
 -- What the proofs of this crate, and of those above it, have in common: the facts that decide a definition's tests, what shows an answer, and what sizes that
 -- pass tell.
-use Prim.Native.Nat.{ℕ, _-_, _≤_}
+use Prim.Native.Nat.{ℕ, _-_, _<_, _≤_}
 use mathlib.Core.Bool.{Bool, true, false, cond, _||_, true≢false}
 use mathlib.Core.List.{List}
 use mathlib.Core.Path.{_≡_, refl, sym}
@@ -23,6 +23,10 @@ or-false false b e = (refl, e)
 pub within : (low high x : ℕ) → outside low high x ≡ false → (low ≤ x) × (x ≤ high)
 within low high x e = let r = or-false _ _ e in (ltb-false _ _ (r .0), ltb-false _ _ (r .1))
 
+-- a code or a multiplier from 1 to p - 1
+pub below-prime : (p x : ℕ) → outside 1 (p - 1) x ≡ false → x < p
+below-prime p x e = let range = within 1 (p - 1) x e in omega arith
+
 -- an answer's own number and value show it
 pub shown : (answer : Answer) → Shown answer (record { number = numberOf answer; value = valueOf answer })
 shown answer = record { number-shown = refl; value-shown = refl }
@@ -35,13 +39,12 @@ pub sized-by :
     {p limit : ℕ} {words : List ℕ} → tooManyCodes limit words ≡ false → tooManyCells words ≡ false → badMultiplier p words ≡ false
     → tooShort words ≡ false → Sized p limit words
 sized-by {p} {limit} {words} codes cells k short =
-    let range = within 1 (p - 1) (multiplier words) k in
     record {
       few-codes = ltb-false _ _ codes;
       few-cells = λ some. omega (arith, ltb-false, rw (ne-eqb (codeCount words) 0 (λ none. omega arith)) at cells);
       no-cells = λ none. omega (arith, ltb-false, rw (eq-eqb (codeCount words) 0 none) at cells);
-      from-one = range .0;
-      below = omega arith;
+      from-one = within 1 (p - 1) (multiplier words) k .0;
+      below = below-prime p (multiplier words) k;
       whole = ltb-false _ _ short;
     }
 

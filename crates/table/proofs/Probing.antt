@@ -1,20 +1,23 @@
 -- The packed answer of a lookup, over plain words: what is picked of a cell, and the block's answer from the one cell that is read.
 use Prim.Native.Nat.{ℕ, _+_, _*_, _-_, _<_, _≤_}
-use mathlib.Core.Bool.{Bool, true, false, cond}
+use mathlib.Core.Bool.{Bool, true, false, cond, not, _||_, true≢false}
 use mathlib.Core.List.{List, [], _∷_}
 use mathlib.Core.Logic.{inl, inr}
 use mathlib.Core.Path.{_≡_, refl, sym, _∙_}
 use native.Mathlib.Nat.{mul-mod-left, mul-div-cancel, eq-or-lt-of-le, add-right-comm}
 use native.Mathlib.Omega.{arith}
-use borrow.Author.Tests.{eq-eqb, ne-eqb}
-use lib.Dec.{eqb}
-use lib.ListN.{getD}
+use borrow.Author.Tests.{eq-eqb, ne-eqb, le-ltb, ltb-true, ltb-false}
+use lib.Dec.{eqb, ltb}
+use lib.ListN.{length, getD}
 use Rattle.hash.specs.Hash.{hashOf}
+use Rattle.hash.proofs.Indicators.{true-or-false}
 use Rattle.table.specs.Answers.{Answer, given, absent, refuse, outside}
 use Rattle.table.specs.Words.{codeCount, cellCount, blockStart, blockEnd, blockMultiplier, cellIn}
-use Rattle.table.specs.Lookup.{inCell, inBlock}
-use Rattle.table.specs.code.OneWord.{wordAnswer, cellAnswer, cellAt}
-use Rattle.table.proofs.Steps.{block-none, block-cell}
+use Rattle.table.specs.Lookup.{badSizes, inCell, inBlock, lookupOf}
+use Rattle.table.specs.code.Sized.{hasBlocks}
+use Rattle.table.specs.code.OneWord.{wordAnswer, cellAnswer, cellAt, unreadable}
+use Rattle.table.proofs.Laws.{or-false}
+use Rattle.table.proofs.Steps.{no-codes}
 
 -- a schedule in the upper half
 pub wordAnswer-given : (s : ℕ) → wordAnswer (s * 4294967296) ≡ given (s ∷ [])
@@ -31,31 +34,64 @@ picked false true true s = refl
 picked false true false s = wordAnswer-given s
 picked false false bad s = refl
 
-module _ (p : ℕ) (words : List ℕ) (code j : ℕ) (rises : blockStart words j ≤ blockEnd words j) (within : blockEnd words j ≤ cellCount words)
-    (range : outside 1 (p - 1) (blockMultiplier words j) ≡ true) where
-  -- a q out of range is refused only where the block has cells
-  pub unread : wordAnswer (cond (eqb (blockStart words j) (blockEnd words j)) 1000 34) ≡ inBlock p words code j
-  unfolding wordAnswer
-  unread =
-      elim (eq-or-lt-of-le rises) [
-        | inl none ↦ rw (eq-eqb _ _ none) (sym (block-none p words code j rises within none))
-        | inr some ↦ rw (ne-eqb (blockStart words j) (blockEnd words j) (λ none. omega arith)) (sym (block-cell p words code j rises within (λ none. omega arith) ∙ rw range))
-      ]
+-- without a block to come to
+pub sizes-told :
+    (p limit : ℕ) (words : List ℕ) (code : ℕ) → outside 1 (p - 1) code ≡ false → hasBlocks p limit words ≡ false → 3 ≤ length words
+    → wordAnswer (cond (badSizes p limit words) 33 1000) ≡ lookupOf p limit words code
+unfolding wordAnswer lookupOf
+sizes-told p limit words code range e three =
+    elim (true-or-false (badSizes p limit words)) [
+      | inl wrong ↦ rw (range, le-ltb _ _ three, wrong)
+      | inr right ↦ rw (range, le-ltb _ _ three, right, no-codes p limit words e (le-ltb _ _ three) right)
+    ]
 
-module _ (p : ℕ) (words : List ℕ) (code j : ℕ) (rises : blockStart words j ≤ blockEnd words j) (within : blockEnd words j ≤ cellCount words)
-    (range : outside 1 (p - 1) (blockMultiplier words j) ≡ false) where
-  abbrev cells : ℕ
-  cells = blockEnd words j - blockStart words j
+-- a block that can't be read is refused, but for one without cells, whose q is not looked at
+refused-or-absent :
+    (falls above none out : Bool) (x : Answer) → falls || (above || out) ≡ true → (falls ≡ true → none ≡ false)
+    → wordAnswer (cond (above || not none) 34 1000) ≡ refuse falls 34 0 (refuse above 34 0 (cond none absent (refuse out 34 0 x)))
+unfolding wordAnswer
+refused-or-absent true true none out x e h = refl
+refused-or-absent true false none out x e h = rw (h refl)
+refused-or-absent false true none out x e h = refl
+refused-or-absent false false true out x e h = refl
+refused-or-absent false false false true x e h = refl
+refused-or-absent false false false false x e h = absurd (true≢false (sym e))
+
+pub readable :
+    (p c start end q : ℕ) → unreadable p c start end q ≡ false → (start ≤ end) × ((end ≤ c) × (outside 1 (p - 1) q ≡ false))
+unfolding unreadable
+readable p c start end q e =
+    let falls = or-false _ _ e in
+    let above = or-false _ _ (falls .1) in
+    (ltb-false _ _ (falls .0), (ltb-false _ _ (above .0), above .1))
+
+-- the answer of block j from its ends and its q, as they are read
+module _ (p : ℕ) (words : List ℕ) (code j : ℕ) {start end q : ℕ} (at : start ≡ blockStart words j) (to : end ≡ blockEnd words j)
+    (by : q ≡ blockMultiplier words j) where
+  pub unread :
+      unreadable p (cellCount words) start end q ≡ true
+      → wordAnswer (cond (ltb (cellCount words) end || not (eqb start end)) 34 1000) ≡ inBlock p words code j
+  unfolding unreadable inBlock
+  unread e =
+      rw (← at, ← to, ← by)
+      (refused-or-absent (ltb end start) (ltb (cellCount words) end) (eqb start end) (outside 1 (p - 1) q) _ e (λ falls. ne-eqb start end (λ none. let below = ltb-true end start falls in omega arith)))
 
   abbrev index : ℕ
-  index = cellAt p (codeCount words) (blockStart words j) cells (blockMultiplier words j) code
+  index = cellAt p (codeCount words) start (end - start) q code
 
-  pub probed : cellAnswer cells code (getD words index 0) (getD words (index + cellCount words) 0) ≡ inBlock p words code j
-  unfolding cellAnswer cellAt inCell cellIn
-  probed =
-      elim (eq-or-lt-of-le rises) [
-        | inl none ↦ rw (eq-eqb cells 0 (omega arith)) (sym (block-none p words code j rises within none))
+  pub probed :
+      unreadable p (cellCount words) start end q ≡ false
+      → cellAnswer (end - start) code (getD words index 0) (getD words (index + cellCount words) 0) ≡ inBlock p words code j
+  unfolding cellAnswer cellAt inCell cellIn inBlock
+  probed e =
+      let ends = readable p (cellCount words) start end q e in
+      rw (← at, ← to, ← by, le-ltb end start (ends .0), le-ltb (cellCount words) end (ends .1 .0), ends .1 .1)
+      (elim (eq-or-lt-of-le (ends .0)) [
+        | inl none ↦ rw (eq-eqb (end - start) 0 (omega arith), eq-eqb start end none)
         | inr some ↦
-            rw (ne-eqb cells 0 (λ none. omega arith), add-right-comm (3 + 2 * codeCount words) (blockStart words j + hashOf p (blockMultiplier words j) cells code) (cellCount words))
-            (sym (block-cell p words code j rises within (λ none. omega arith) ∙ rw range))
-      ]
+            rw (
+              ne-eqb (end - start) 0 (λ none. omega arith),
+              ne-eqb start end (λ none. omega arith),
+              add-right-comm (3 + 2 * codeCount words) (start + hashOf p q (end - start) code) (cellCount words),
+            )
+      ])

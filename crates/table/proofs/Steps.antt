@@ -35,7 +35,7 @@ module _ (p : ℕ) (words : List ℕ) (code j : ℕ) (rises : blockStart words j
   block-cell some = rw (le-ltb _ _ rises, le-ltb _ _ within, ne-eqb _ _ some)
 
 -- where there is no block to come to, a lookup gives no schedule
-no-codes :
+pub no-codes :
     (p limit : ℕ) (words : List ℕ) → hasBlocks p limit words ≡ false → ltb (length words) 3 ≡ false → badSizes p limit words ≡ false
     → eqb (codeCount words) 0 ≡ true
 unfolding hasBlocks

@@ -1,6 +1,6 @@
 // Looking a code up (document 01, "Look up"). Of the table it reads n, c, k, the start and the end of the code's block, its q, and
 // the code and schedule of one cell.
-ghost use Prim.Native.Nat.{_≤_};
+ghost use Prim.Native.Nat.{_<_, _≤_};
 ghost use mathlib.Core.Path.{_≡_};
 ghost use Rattle.table.specs.Lookup.{inCell, inBlock, lookupOf};
 ghost use Rattle.table.specs.code.Sized.{Block, Cell};
@@ -47,7 +47,7 @@ fn in_cell(words: &[u32], code: u32, i: usize) -> Found
 
 // The answer from block j, the code's own. The q of a block without cells is not looked at.
 pub fn in_block(p: u32, words: &[u32], code: u32, j: usize) -> Found
-    requires { ⌜ (1 ≤ p) × Block (now words) j ⌝ }
+    requires { ⌜ (code < p) × Block (now words) j ⌝ }
     ensures { λ r. ⌜ foundOf r ≡ inBlock p (now (words .entry)) code j ⌝ }
 {
     let start = block_start(words, j);

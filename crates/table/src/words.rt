@@ -3,11 +3,12 @@
 ghost use Prim.Native.Nat.{_<_, _≤_};
 ghost use mathlib.Core.Path.{_≡_};
 ghost use lib.ListN.{length};
-ghost use Rattle.table.specs.Words.{codeCount, total, blockStart, blockEnd, blockMultiplier, cellCode, cellSchedule, blockOf, cellIn};
+ghost use Rattle.table.specs.Words.{codeCount, multiplier, total, blockStart, blockEnd, blockMultiplier, cellCode, cellSchedule, blockOf, cellIn};
 ghost use Rattle.table.specs.Lookup.{tooManyCodes, tooManyCells, badMultiplier, tooShort, badSizes};
-ghost use Rattle.table.specs.code.Sized.{Block, Cell, Within, hasBlocks};
+ghost use Rattle.table.specs.code.Sized.{Block, Cell, Within, HashOf, hasBlocks};
 use crate::numbers::outside;
 use crate::numbers::wide;
+use hash::Hasher;
 
 // The words that the sizes call for.
 pub fn total(words: &[u32]) -> usize
@@ -130,18 +131,34 @@ pub fn cell_schedule(words: &[u32], i: usize) -> u32
 
 // The block that a code belongs to.
 pub(crate) fn block_of(p: u32, words: &[u32], code: u32) -> usize
-    requires { ⌜ (1 ≤ p) × ((3 ≤ length (now words)) × (0 < codeCount (now words))) ⌝ }
+    requires { ⌜ (3 ≤ length (now words)) × (0 < codeCount (now words)) ⌝ }
+    requires { ⌜ (multiplier (now words) < p) × (code < p) ⌝ }
     ensures { λ r. ⌜ Within (blockOf p (now (words .entry)) code) (codeCount (now (words .entry))) r ⌝ }
 {
-    wide(hash::hash(p, words[2], words[0], code))
+    wide(hash::hash_below(p, words[2], words[0], code))
+}
+
+// The same hash for many codes.
+pub fn table_hash(p: u32, words: &[u32]) -> Hasher
+    requires { ⌜ (3 ≤ length (now words)) × (0 < codeCount (now words)) ⌝ }
+    requires { ⌜ multiplier (now words) < p ⌝ }
+    ensures { λ r. ⌜ HashOf (now (words .entry)) r × (r .prime ≡ p) ⌝ }
+{
+    Hasher {
+        prime: p,
+        multiplier: words[2],
+        places: words[0],
+        reciprocal: hash::reciprocal(p, words[0]),
+    }
 }
 
 // The cell of block j, which has cells, that is a code's own, counted over the whole table.
 pub(crate) fn cell_in(p: u32, words: &[u32], j: usize, code: u32) -> usize
-    requires { ⌜ (1 ≤ p) × (Block (now words) j × (blockStart (now words) j < blockEnd (now words) j)) ⌝ }
+    requires { ⌜ Block (now words) j × (blockStart (now words) j < blockEnd (now words) j) ⌝ }
+    requires { ⌜ (blockMultiplier (now words) j < p) × (code < p) ⌝ }
     ensures { λ r. ⌜ Within (cellIn p (now (words .entry)) j code) (blockEnd (now (words .entry)) j) r ⌝ }
 {
     let start = block_start(words, j);
     let cells = block_end(words, j) - start;
-    wide(start) + wide(hash::hash(p, block_multiplier(words, j), cells, code))
+    wide(start) + wide(hash::hash_below(p, block_multiplier(words, j), cells, code))
 }

@@ -9,7 +9,7 @@ use Rattle.hash.specs.Hash.{hashOf}
 use Rattle.hash.specs.code.Contract.{Hashing}
 use Rattle.hash.specs.declared.Hasher.{Hasher}
 use Rattle.table.specs.Answers.{some}
-use Rattle.table.specs.Words.{codeCount, cellCount, multiplier, total, blockStart, blockEnd, blockMultiplier, cellCode}
+use Rattle.table.specs.Words.{codeCount, cellCount, total, blockStart, blockEnd, blockMultiplier, cellCode}
 use Rattle.table.specs.code.Choice.{chosen}
 use Rattle.table.specs.code.Sized.{Sized}
 use Rattle.audit.specs.Check.{codesIn}
@@ -67,12 +67,6 @@ pub record Ranged (p limit : ℕ) (words : List ℕ) : Type 0 where
   pub starts : Starts words
   pub multipliers : (j : ℕ) → j < codeCount words → blockMultiplier words j < p
   pub codes : (i : ℕ) → i < cellCount words → cellCode words i < p
-
--- h is the hash of a table's codes into its blocks, of which there are some
-pub record HashOf (words : List ℕ) (h : Hasher) : Type 0 where
-  pub hashed : Hashing h
-  pub multiplier-is : h .multiplier ≡ multiplier words
-  pub blocks-is : h .places ≡ codeCount words
 
 -- b is the hash of block j's codes into its cells
 pub record BlockHashOf (words : List ℕ) (j : ℕ) (b : BlockHash) : Type 0 where

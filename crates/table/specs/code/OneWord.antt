@@ -1,8 +1,8 @@
 -- A branch-free lookup: its answer in one word of 64 bits, and the cell that it comes from.
-use Prim.Native.Nat.{ℕ, _+_, _*_, _/_, _%_}
-use mathlib.Core.Bool.{cond}
+use Prim.Native.Nat.{ℕ, _+_, _*_, _-_, _/_, _%_}
+use mathlib.Core.Bool.{Bool, cond, _||_}
 use mathlib.Core.List.{[], _∷_}
-use lib.Dec.{eqb}
+use lib.Dec.{eqb, ltb}
 use Rattle.hash.specs.Hash.{hashOf}
 use Rattle.table.specs.Answers.{Answer, given, absent, refused, refuse, outside}
 
@@ -25,3 +25,7 @@ cellAnswer m code stored schedule =
 -- the index of the word with the code of that cell, in a table of n codes; 0 where the block has no cells
 unfoldable pub cellAt : ℕ → ℕ → ℕ → ℕ → ℕ → ℕ → ℕ
 cellAt p n start m q code = cond (eqb m 0) 0 (3 + 2 * n + (start + hashOf p q m code))
+
+-- a lookup ends before it reads a cell of the block
+unfoldable pub unreadable : ℕ → ℕ → ℕ → ℕ → ℕ → Bool
+unreadable p c start end q = ltb end start || (ltb c end || outside 1 (p - 1) q)

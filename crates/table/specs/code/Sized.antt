@@ -5,6 +5,8 @@ use mathlib.Core.List.{List}
 use mathlib.Core.Path.{_≡_}
 use lib.Dec.{eqb, ltb}
 use lib.ListN.{length}
+use Rattle.hash.specs.code.Contract.{Hashing}
+use Rattle.hash.specs.declared.Hasher.{Hasher}
 use Rattle.table.specs.Words.{codeCount, cellCount, multiplier, total}
 use Rattle.table.specs.Lookup.{badSizes}
 
@@ -45,6 +47,12 @@ pub record WithBlocks (p limit : ℕ) (words : List ℕ) : Type 0 where
 -- the same as a test
 unfoldable pub hasBlocks : ℕ → ℕ → List ℕ → Bool
 hasBlocks p limit words = cond (ltb (length words) 3) false (cond (eqb (codeCount words) 0) false (not (badSizes p limit words)))
+
+-- h is the hash of a table's codes into its blocks, of which there are some
+pub record HashOf (words : List ℕ) (h : Hasher) : Type 0 where
+  pub hashed : Hashing h
+  pub multiplier-is : h .multiplier ≡ multiplier words
+  pub blocks-is : h .places ≡ codeCount words
 
 -- r is the number x, which is below the bound
 pub record Within (x bound r : ℕ) : Type 0 where

@@ -36,7 +36,7 @@ check-places-spec =
     (tie.spec
     (λ c. omega (arith, c .before .before .pre .sized .whole))
     returns
-    (λ c κs. (c .before .before .before .pre .sized, omega arith))
+    (λ c κs. let sized = c .before .before .before .pre .sized in ((omega (arith, sized .whole), omega arith), sized .below))
     (λ c κs. (ranged c, c .table-hash .ensures .0))
     (λ c κs. ((ranged (c .before .before), c .before .before .table-hash .ensures .0), sym (c .before .any-unsound .ensures) ∙ c .if2 .taken))
     returns-2

@@ -1,38 +1,31 @@
--- `table::branch_free::block_answer` meets its contract: its tests are the definition's, but for the order of the block without cells.
+-- `table::branch_free::block_answer` meets its contract: a block that can't be read is told from its ends, any other from its cell.
 use mathlib.Core.Path.{_∙_, sym}
-use native.Mathlib.Omega.{arith}
 use borrow.Author.Needs.{needs}
-use Rattle.table.specs.Lookup.{inBlock}
-use Rattle.table.specs.code.OneWord.{wordAnswer}
-use Rattle.table.proofs.Laws.{tests}
-use Rattle.table.proofs.Probing.{unread, probed}
+use Rattle.table.proofs.Laws.{below-prime}
+use Rattle.table.proofs.Probing.{unread, readable, probed}
 use Rattle.table.proofs.branch_free.block_answer.Statement.{statement}
 use Rattle.table.proofs.branch_free.block_answer.Tie as tie
 
 returns : tie.Need-returns
-unfolding inBlock wordAnswer
-returns c = let r = c .before .before in rw (← r .block-end .ensures, ← r .before .block-start .ensures) (search tests)
+returns c =
+    let bad = c .before .before in
+    let q = bad .before .before in
+    rw (c .select .ensures)
+    (unread _ _ _ _ (q .before .before .block-start .ensures) (q .before .block-end .ensures) (q .block-multiplier .ensures)
+    (sym (bad .unreadable .ensures) ∙ c .before .if1 .taken))
+
+probe-requires : tie.Need-probe-requires
+probe-requires c κs =
+    let ends = readable _ _ _ _ _ (sym (c .before .unreadable .ensures) ∙ c .if1 .left) in
+    (below-prime _ _ (ends .1 .1), (search needs, record { whole = search needs; rises = ends .0; below = ends .1 .0 }))
 
 returns-2 : tie.Need-returns-2
-unfolding inBlock wordAnswer
 returns-2 c =
-    let r = c .before .before .before .before in
-    rw (← r .block-end .ensures, ← r .before .block-start .ensures) (search tests)
-
-returns-3 : tie.Need-returns-3
-returns-3 c =
-    let q = c .before .before .before .before .before .before in
-    rw (c .select .ensures, q .before .before .block-start .ensures, q .before .block-end .ensures)
-    (unread _ _ _ _ (omega arith) (omega arith)
-    (rw (← q .block-multiplier .ensures) (sym (c .before .before .outside .ensures) ∙ c .before .if3 .taken)))
-
-returns-4 : tie.Need-returns-4
-returns-4 c =
-    let q = c .before .before .before .before .before .before in
+    let good = c .before .before in
+    let q = good .before .before in
     c .probe .ensures ∙
-    rw (q .before .before .block-start .ensures, q .before .block-end .ensures, q .block-multiplier .ensures)
-    (probed _ _ _ _ (omega arith) (omega arith)
-    (rw (← q .block-multiplier .ensures) (sym (c .before .before .outside .ensures) ∙ c .before .if3 .left)))
+    probed _ _ _ _ (q .before .before .block-start .ensures) (q .before .block-end .ensures) (q .block-multiplier .ensures)
+    (sym (good .unreadable .ensures) ∙ c .before .if1 .left)
 
 pub block-answer-spec : {M : Type 1} → statement M
 block-answer-spec =
@@ -41,12 +34,9 @@ block-answer-spec =
     (λ c κs. search needs)
     (λ c κs. search needs)
     (λ c κs. search needs)
+    (λ c. search needs)
+    (λ c κs. search needs)
+    (λ c κs. search needs)
     returns
-    (λ c. search needs)
-    returns-2
-    (λ c. search needs)
-    (λ c κs. search needs)
-    (λ c κs. search needs)
-    returns-3
-    (λ c κs. search needs)
-    returns-4)
+    probe-requires
+    returns-2)

@@ -1,11 +1,14 @@
 -- `table::branch_free::lookup_word_for` meets its contract, by what the plain lookup and the block's answer give.
+use Prim.Native.Nat.{_<_}
 use mathlib.Core.Path.{_∙_, sym}
 use native.Mathlib.Omega.{arith}
 use borrow.Author.Needs.{needs}
-use borrow.Author.Tests.{not-false}
+use borrow.Author.Tests.{lt-ltb}
 use Rattle.table.specs.Lookup.{lookupOf}
+use Rattle.table.specs.code.Sized.{WithBlocks}
 use Rattle.table.specs.code.OneWord.{wordAnswer}
-use Rattle.table.proofs.Laws.{sized, has-blocks}
+use Rattle.table.proofs.Laws.{below-prime, sized, has-blocks}
+use Rattle.table.proofs.Probing.{sizes-told}
 use Rattle.table.proofs.Steps.{lookup-block}
 use Rattle.table.proofs.branch_free.lookup_word_for.Statement.{statement}
 use Rattle.table.proofs.branch_free.lookup_word_for.Tie as tie
@@ -14,27 +17,38 @@ returns : tie.Need-returns
 unfolding lookupOf wordAnswer
 returns c = rw (sym (c .before .outside .ensures) ∙ c .if1 .taken)
 
+-- where a lookup comes to a block
+module _ (c : tie.Then2) where
+  abbrev start : tie.Start
+  start = c .before .before .before .before .before
+
+  blocks : WithBlocks (start .args .p) (start .args .limit) (start .args .words .now)
+  blocks = has-blocks (sym (c .before .has-blocks .ensures) ∙ c .if2 .taken)
+
+  in-range : start .args .code < start .args .p
+  in-range = below-prime _ _ (sym (c .before .before .before .outside .ensures) ∙ c .before .before .if1 .left)
+
 returns-2 : tie.Need-returns-2
-returns-2 c = c .answer-word .ensures ∙ c .before .lookup-for .ensures
-
-block-of-requires : tie.Need-block-of-requires
-block-of-requires c κs =
-    let blocks = has-blocks (sym (c .before .has-blocks .ensures) ∙ not-false _ (c .if2 .left)) in
-    (search needs, (blocks .three, blocks .some))
-
-block-answer-requires : tie.Need-block-answer-requires
-block-answer-requires c κs =
-    let blocks = has-blocks (sym (c .before .before .has-blocks .ensures) ∙ not-false _ (c .before .if2 .left)) in
-    (search needs, record { whole = sized (blocks .sizes) .whole; below = c .block-of .ensures .range })
-
-returns-3 : tie.Need-returns-3
-returns-3 c =
+returns-2 c =
     let s = c .before .before in
     let r = s .before .before in
-    let blocks = has-blocks (sym (s .before .has-blocks .ensures) ∙ not-false _ (s .if2 .left)) in
     c .block-answer .ensures ∙
     rw (c .before .block-of .ensures .value)
-    (sym (lookup-block _ _ _ _ (sym (r .before .outside .ensures) ∙ r .if1 .left) (blocks .three) (blocks .sizes) (λ none. omega arith)))
+    (sym (lookup-block _ _ _ _ (sym (r .before .outside .ensures) ∙ r .if1 .left) (blocks s .three) (blocks s .sizes) (λ none. omega (arith, blocks s .some))))
+
+returns-3 : tie.Need-returns-3
+unfolding lookupOf wordAnswer
+returns-3 c =
+    let r = c .before .before .before in
+    rw (sym (r .before .outside .ensures) ∙ r .if1 .left, lt-ltb _ _ (c .if3 .taken))
+
+returns-4 : tie.Need-returns-4
+returns-4 c =
+    let few = c .before .before in
+    let none = few .before in
+    let r = none .before .before in
+    rw (c .select .ensures, c .before .bad-sizes .ensures)
+    (sizes-told _ _ _ _ (sym (r .before .outside .ensures) ∙ r .if1 .left) (sym (none .before .has-blocks .ensures) ∙ none .if2 .left) (few .if3 .left))
 
 pub lookup-word-for-spec : {M : Type 1} → statement M
 lookup-word-for-spec =
@@ -44,9 +58,10 @@ lookup-word-for-spec =
     (λ c κs. search needs)
     returns
     (λ c κs. search needs)
-    (λ c κs. search needs)
-    (λ c κs. search needs)
+    (λ c κs. ((blocks c .three, blocks c .some), (sized (blocks c .sizes) .below, in-range c)))
+    (λ c κs. (in-range (c .before), record { whole = sized (blocks (c .before) .sizes) .whole; below = c .block-of .ensures .range }))
     returns-2
-    block-of-requires
-    block-answer-requires
-    returns-3)
+    returns-3
+    (λ c κs. search needs)
+    (λ c κs. search needs)
+    returns-4)

@@ -3,7 +3,7 @@ use mathlib.Core.Path.{_∙_, sym}
 use native.Mathlib.Omega.{arith}
 use borrow.Author.Needs.{needs}
 use Rattle.table.specs.Lookup.{inBlock}
-use Rattle.table.proofs.Laws.{tests}
+use Rattle.table.proofs.Laws.{tests, below-prime}
 use Rattle.table.proofs.Steps.{block-none, block-cell}
 use Rattle.table.proofs.lookup.in_block.Statement.{statement}
 use Rattle.table.proofs.lookup.in_block.Tie as tie
@@ -25,6 +25,11 @@ returns-4 : tie.Need-returns-4
 returns-4 c =
     sym (block-cell _ _ _ _ (omega arith) (omega arith) (λ none. omega arith) ∙
     rw (← c .before .before .block-multiplier .ensures, sym (c .before .outside .ensures) ∙ c .if4 .taken))
+
+cell-in-requires : tie.Need-cell-in-requires
+cell-in-requires c κs =
+    let q = c .before .before in
+    (search needs, (below-prime _ _ (rw (← q .block-multiplier .ensures) (sym (c .before .outside .ensures) ∙ c .if4 .left)), search needs))
 
 returns-5 : tie.Need-returns-5
 returns-5 c =
@@ -50,6 +55,6 @@ in-block-spec =
     (λ c κs. search needs)
     (λ c κs. search needs)
     returns-4
-    (λ c κs. search needs)
+    cell-in-requires
     (λ c κs. search needs)
     returns-5)
