@@ -62,11 +62,6 @@ module _ {p : ℕ} {b : Block} {words : List ℕ} (g : Gathered p b words) where
   pub block-length : length block ≡ b .codes
   block-length = length-take-le (b .codes) (drop (b .start) words) (omega (arith, length-drop (b .start) words, g .enough, g .apart, some-square))
 
-  pub values-length : length values ≡ b .codes
-  values-length =
-      length-take-le (b .codes) (drop (b .start + b .cells) words)
-      (omega (arith, length-drop (b .start + b .cells) words, g .enough, some-square))
-
   pub block-square : square block ≡ b .codes * b .codes
   block-square = ap (λ (m : ℕ). m * m) block-length
 

@@ -4,10 +4,10 @@ ghost use mathlib.Core.Path.{_≡_};
 ghost use lib.ListN.{length, take, replicate, set};
 ghost use Rattle.hash.specs.code.Contract.{Ready, Hashing};
 ghost use Rattle.hash.specs.Hash.{Codes};
-ghost use Rattle.search.specs.code.Cells.{square, filledBy, Unplaced, Separated};
+ghost use Rattle.search.specs.code.Cells.{square, filledBy};
 ghost use Rattle.search.specs.code.Searchable.{Searchable};
 ghost use Rattle.table.specs.Limits.{few};
-ghost use Rattle.writer.specs.code.Block.{First, Gathered, BlockPlaced};
+ghost use Rattle.writer.specs.code.Block.{PlacesOf, CodesPlaced, scattered, Scattering, First, Gathered, BlockPlaced};
 use hash::Hasher;
 use search::cells::more_multiplier;
 use search::cells::two_multiplier;
@@ -31,37 +31,35 @@ fn place_two(x: usize, y: usize, first: u32, second: u32, cells: &mut [u32])
     cells[x] = first;
 }
 
-// The values listed with the codes of a block, each at its code's place; the cells are all 0.
-fn place(h: Hasher, block: &[u32], values: &[u32], cells: &mut [u32])
+// Puts the codes of a block in their cells, which are all 0, and notes their places: no code is hashed again for its schedule.
+fn place_codes(h: Hasher, block: &[u32], places: &mut [u32], cells: &mut [u32])
     requires { ⌜ Hashing h × Codes (h .prime) (now block) ⌝ }
     requires { ⌜ (h .places ≡ square (now block)) × (now cells ≡ replicate (square (now block)) 0) ⌝ }
-    requires { ⌜ length (now values) ≡ length (now block) ⌝ }
-    ensures { λ _. ⌜ now (cells .exit) ≡ filledBy (h .prime) (h .multiplier) (now (block .entry)) (now (values .entry)) ⌝ }
+    requires { ⌜ length (now places) ≡ length (now block) ⌝ }
+    ensures { λ _. ⌜ PlacesOf (h .prime) (h .multiplier) (now (block .entry)) (now (places .exit)) ⌝ }
+    ensures { λ _. ⌜ now (cells .exit) ≡ filledBy (h .prime) (h .multiplier) (now (block .entry)) (now (block .entry)) ⌝ }
 {
     let mut i = block.len();
     while 0 < i {
         i -= 1;
-        let t = wide(hash::hash_below_by(h, block[i]));
-        cells[t] = values[i];
+        let a = block[i];
+        let t = hash::hash_below_by(h, a);
+        cells[wide(t)] = a;
+        places[i] = t;
     }
 }
 
-// The codes of a block at their places by its least multiplier. The cells, all 0, are first the scratch buffer of the search.
-fn place_codes(p: u32, reciprocal: u64, block: &[u32], cells: &mut [u32]) -> u32
-    requires { ⌜ Unplaced p (now block) (now cells) ⌝ }
-    requires { ⌜ (0 < length (now block)) × Ready p (length (now cells)) reciprocal ⌝ }
-    ensures { λ r. ⌜ Separated p (now (block .entry)) r ⌝ }
-    ensures { λ r. ⌜ now (cells .exit) ≡ filledBy p r (now (block .entry)) (now (block .entry)) ⌝ }
+// Values at their places; the cells are all 0.
+fn scatter(places: &[u32], values: &[u32], cells: &mut [u32])
+    requires { ⌜ Scattering (now places) (now values) (now cells) ⌝ }
+    requires { ⌜ now cells ≡ replicate (length (now cells)) 0 ⌝ }
+    ensures { λ _. ⌜ now (cells .exit) ≡ scattered (now (places .entry)) (now (values .entry)) (length (now (cells .entry))) ⌝ }
 {
-    let q = more_multiplier(p, reciprocal, block, cells);
-    let h = Hasher {
-        prime: p,
-        multiplier: q,
-        places: cells.len() as u32,
-        reciprocal,
-    };
-    place(h, block, block, cells);
-    q
+    let mut i = places.len();
+    while 0 < i {
+        i -= 1;
+        cells[wide(places[i])] = values[i];
+    }
 }
 
 // Takes the first numbers out of their cells, which are then all 0.
@@ -78,31 +76,42 @@ fn take_first(cells: &mut [u32], first: &mut [u32])
     }
 }
 
-// The codes in the first of their cells, moved to their places; they are kept in `own`.
-fn move_codes(p: u32, reciprocal: u64, own: &mut [u32], cells: &mut [u32]) -> u32
+// The codes in the first of their cells, moved to their places by the block's least multiplier. Once they are taken out, the cells are first the scratch
+// buffer of the search. `own` has room for the codes, and `places` is left with their places.
+fn move_codes(
+    p: u32,
+    reciprocal: u64,
+    own: &mut [u32],
+    places: &mut [u32],
+    cells: &mut [u32],
+) -> u32
     requires { ⌜ First (length (now own)) (now cells) × Searchable p (take (length (now own)) (now cells)) ⌝ }
     requires { ⌜ (length (now cells) ≡ length (now own) * length (now own)) × ((0 < length (now own)) × Ready p (length (now cells)) reciprocal) ⌝ }
-    ensures { λ _. ⌜ now (own .exit) ≡ take (length (now (own .entry))) (now (cells .entry)) ⌝ }
-    ensures { λ r. ⌜ Separated p (take (length (now (own .entry))) (now (cells .entry))) r ⌝ }
-    ensures { λ r.
-        ⌜ now (cells .exit)
-        ≡ filledBy p r (take (length (now (own .entry))) (now (cells .entry))) (take (length (now (own .entry))) (now (cells .entry))) ⌝ }
+    requires { ⌜ length (now places) ≡ length (now own) ⌝ }
+    ensures { λ r. ⌜ CodesPlaced p (take (length (now (own .entry))) (now (cells .entry))) r (now (places .exit)) (now (cells .exit)) ⌝ }
 {
     take_first(cells, own);
-    place_codes(p, reciprocal, own, cells)
+    let q = more_multiplier(p, reciprocal, own, cells);
+    let h = Hasher {
+        prime: p,
+        multiplier: q,
+        places: cells.len() as u32,
+        reciprocal,
+    };
+    place_codes(h, own, places, cells);
+    q
 }
 
-// The same of their schedules, by the codes.
-fn move_values(h: Hasher, block: &[u32], values: &mut [u32], cells: &mut [u32])
-    requires { ⌜ Hashing h × Codes (h .prime) (now block) ⌝ }
-    requires { ⌜ First (length (now values)) (now cells) × (length (now values) ≡ length (now block)) ⌝ }
-    requires { ⌜ (h .places ≡ square (now block)) × (length (now cells) ≡ square (now block)) ⌝ }
+// The same of their schedules, by the places.
+fn move_values(places: &[u32], values: &mut [u32], cells: &mut [u32])
+    requires { ⌜ First (length (now values)) (now cells) ⌝ }
+    requires { ⌜ Scattering (now places) (now values) (now cells) ⌝ }
     ensures { λ _.
         ⌜ now (cells .exit)
-        ≡ filledBy (h .prime) (h .multiplier) (now (block .entry)) (take (length (now (values .entry))) (now (cells .entry))) ⌝ }
+        ≡ scattered (now (places .entry)) (take (length (now (values .entry))) (now (cells .entry))) (length (now (cells .entry))) ⌝ }
 {
     take_first(cells, values);
-    place(h, block, values, cells);
+    scatter(places, values, cells);
 }
 
 // A block of two codes, in four cells.
@@ -126,10 +135,10 @@ fn write_two(p: u32, b: Block, words: &mut [u32]) -> u32
     q
 }
 
-// A block of more codes. `own` and `values` have a place for each of its pairs.
-fn write_more(p: u32, b: Block, own: &mut [u32], values: &mut [u32], words: &mut [u32]) -> u32
+// A block of more codes. `own` and `places` have room for each of its codes.
+fn write_more(p: u32, b: Block, own: &mut [u32], places: &mut [u32], words: &mut [u32]) -> u32
     requires { ⌜ Gathered p b (now words) ⌝ }
-    requires { ⌜ (length (now own) ≡ b .codes) × (length (now values) ≡ b .codes) ⌝ }
+    requires { ⌜ (length (now own) ≡ b .codes) × (length (now places) ≡ b .codes) ⌝ }
     ensures { λ r. ⌜ BlockPlaced p b (now (words .entry)) r (now (words .exit)) ⌝ }
 {
     let w = b.codes * b.codes;
@@ -138,14 +147,8 @@ fn write_more(p: u32, b: Block, own: &mut [u32], values: &mut [u32], words: &mut
     let second = start + b.cells;
     let last = second + w;
     let reciprocal = hash::reciprocal(p, w as u32);
-    let q = move_codes(p, reciprocal, own, &mut words[start..end]);
-    let h = Hasher {
-        prime: p,
-        multiplier: q,
-        places: w as u32,
-        reciprocal,
-    };
-    move_values(h, own, values, &mut words[second..last]);
+    let q = move_codes(p, reciprocal, own, places, &mut words[start..end]);
+    move_values(places, own, &mut words[second..last]);
     q
 }
 
@@ -154,16 +157,16 @@ pub(crate) fn write_block(
     p: u32,
     b: Block,
     own: &mut [u32],
-    values: &mut [u32],
+    places: &mut [u32],
     words: &mut [u32],
 ) -> u32
     requires { ⌜ Gathered p b (now words) ⌝ }
-    requires { ⌜ (length (now own) ≡ few) × (length (now values) ≡ few) ⌝ }
+    requires { ⌜ (length (now own) ≡ few) × (length (now places) ≡ few) ⌝ }
     ensures { λ r. ⌜ BlockPlaced p b (now (words .entry)) r (now (words .exit)) ⌝ }
 {
     let m = b.codes;
     if m == 2 {
         return write_two(p, b, words);
     }
-    write_more(p, b, &mut own[..m], &mut values[..m], words)
+    write_more(p, b, &mut own[..m], &mut places[..m], words)
 }

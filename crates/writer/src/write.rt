@@ -75,13 +75,13 @@ fn write_shared(
     loads: &[u16],
     j: usize,
     own: &mut [u32],
-    values: &mut [u32],
+    places: &mut [u32],
     words: &mut [u32],
 )
     requires { ⌜ (j < shape .codes) × ((shape .codes ≤ room) × (length (now loads) ≡ shape .codes)) ⌝ }
     requires { ⌜ length (now words) ≡ 3 + 2 * shape .codes + 2 * shape .cells ⌝ }
     requires { ⌜ Gathered (shape .prime) (blockAt shape (now loads) j (now words)) (now words) ⌝ }
-    requires { ⌜ (length (now own) ≡ few) × (length (now values) ≡ few) ⌝ }
+    requires { ⌜ (length (now own) ≡ few) × (length (now places) ≡ few) ⌝ }
     ensures { λ _. ⌜ now (words .exit) ≡ blockIn shape (blockAt shape (now (loads .entry)) j (now (words .entry))) j (now (words .entry)) ⌝ }
 {
     let multipliers = 3 + shape.codes;
@@ -90,7 +90,7 @@ fn write_shared(
         codes: loads[j] as usize,
         cells: shape.cells,
     };
-    let q = write_block(shape.prime, b, own, values, words);
+    let q = write_block(shape.prime, b, own, places, words);
     words[multipliers + j] = q;
 }
 
@@ -119,11 +119,11 @@ pub(crate) fn write_table(
         return;
     }
     let mut own = [0u32; FEW];
-    let mut values = [0u32; FEW];
+    let mut places = [0u32; FEW];
     let mut t = 0;
     while t < shared {
         let j = blocks[t] as usize;
-        write_shared(shape, loads, j, &mut own, &mut values, words);
+        write_shared(shape, loads, j, &mut own, &mut places, words);
         t += 1;
     }
 }

@@ -1,11 +1,13 @@
 -- One block of more codes than one, in the words.
-use Prim.Native.Nat.{ℕ, _+_, _*_, _-_, _≤_}
+use Prim.Native.Nat.{ℕ, _+_, _*_, _-_, _<_, _≤_}
 use mathlib.Core.List.{List, _++_}
 use mathlib.Core.Path.{_≡_}
-use lib.ListN.{length, take, drop, replicate}
-use Rattle.search.specs.code.Cells.{filledBy, Separated}
+use lib.ListN.{length, getD, take, drop, replicate}
+use Rattle.hash.specs.Hash.{hashOf}
+use Rattle.search.specs.code.Cells.{square, filledBy, Separated}
 use Rattle.search.specs.code.Searchable.{Searchable}
 use Rattle.table.specs.Limits.{few}
+use Rattle.table.specs.TwoLevel.{tabulate, heldAt}
 use Rattle.writer.specs.declared.block.Block.{Block}
 
 -- its codes and its schedules, in the first of its cells
@@ -14,6 +16,25 @@ codesAt b words = take (b .codes) (drop (b .start) words)
 
 abbrev pub schedulesAt : Block → List ℕ → List ℕ
 schedulesAt b words = take (b .codes) (drop (b .start + b .cells) words)
+
+-- the place of each code of a block by q
+pub record PlacesOf (p q : ℕ) (block places : List ℕ) : Type 0 where
+  pub each : length places ≡ length block
+  pub places-are : (i : ℕ) → i < length block → getD places i 0 ≡ hashOf p q (square block) (getD block i 0)
+
+-- q is the least multiplier of a block, whose codes stand in its cells by their places
+pub record CodesPlaced (p : ℕ) (block : List ℕ) (q : ℕ) (places cells : List ℕ) : Type 0 where
+  pub multiplier : Separated p block q
+  pub noted : PlacesOf p q block places
+  pub cells-are : cells ≡ filledBy p q block block
+
+-- w cells with each value at its place, and a place in the cells for each
+abbrev pub scattered : List ℕ → List ℕ → ℕ → List ℕ
+scattered places values w = tabulate (heldAt (λ t. t) places values) w
+
+pub record Scattering (places values cells : List ℕ) : Type 0 where
+  pub parallel : length values ≡ length places
+  pub within : (i : ℕ) → i < length places → getD places i 0 < length cells
 
 -- m numbers stand in the first of these cells, and the others are 0
 pub record First (m : ℕ) (cells : List ℕ) : Type 0 where

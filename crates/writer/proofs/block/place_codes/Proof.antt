@@ -1,32 +1,74 @@
--- `writer::block::place_codes` meets its contract: the cells come back from the search as they were, all 0, and are filled then.
-use mathlib.Core.Path.{_≡_, refl, ap, _∙_}
+-- `writer::block::place_codes` meets its contract. The loop's invariant: the codes from i on are `Placed` in their cells, and their places noted. The
+-- measure is i.
+use Prim.Native.Nat.{ℕ, _<_}
+use mathlib.Core.Path.{_≡_, refl, sym, ap, _∙_}
 use native.Mathlib.Omega.{arith}
 use borrow.Author.Needs.{needs}
-use lib.ListN.{length}
-use Rattle.search.proofs.LeastCells.{unplaced-square, unplaced-few}
+use lib.ListN.{length, getD, length-set, length-replicate, replicate}
+use Rattle.hash.specs.Hash.{hashOf}
+use Rattle.writer.proofs.Placing.{Placed, placed-start, placed-more, placed-all, NotedFrom, noted-more}
 use Rattle.writer.proofs.block.place_codes.Statement.{statement}
 use Rattle.writer.proofs.block.place_codes.Tie as tie
 
-as-long : (c : tie.After-more-multiplier) → length (c .more-multiplier .last .1 .1 .1 .0) ≡ length (c .before .before .before .before .args .cells .now)
-as-long c = ap length (c .more-multiplier .ensures .1)
+abbrev Inv-loop : tie.InvT-loop
+Inv-loop h block places₀ cells₀ i₀ places cells i =
+    let f = hashOf (h .prime) (h .multiplier) (h .places) in
+    Placed f (h .places) block block i cells × (NotedFrom (λ j. f (getD block j 0)) i places × ((length places ≡ length places₀) × (length cells ≡ length cells₀)))
 
-place-requires : tie.Need-place-requires
-place-requires c κs =
-    let found = c .before .before .before in
-    let start = found .before .before .before .before in (
-      (
-        record { below = found .more-multiplier .ensures .0 .below; ready = rw (as-long found) (start .pre .1 .1) },
-        start .pre .0 .codes .valid,
-      ),
-      ((as-long found ∙ unplaced-square (start .pre .0), found .more-multiplier .ensures .1 ∙ start .pre .0 .zeros), refl),
+abbrev μ-loop : tie.MeasureT-loop
+μ-loop h block places₀ cells₀ i₀ places cells i = i
+
+long : (start : tie.Start Inv-loop μ-loop) → length (start .args .cells .now) ≡ start .args .h .places
+long start = ap length (start .pre .1 .0 .1) ∙ length-replicate {A = ℕ} _ 0 ∙ sym (start .pre .1 .0 .0)
+
+loop-holds : tie.Need-loop-holds Inv-loop μ-loop
+loop-holds c =
+    let start = c .before .before .before in
+    let zeros = start .pre .1 .0 .1 ∙ ap (λ (n : ℕ). replicate n 0) (sym (start .pre .1 .0 .0)) in
+    (placed-start _ _ _ zeros, ((λ j l m. absurd (omega arith)), (refl, refl)))
+
+hash-below-by-requires : tie.Need-hash-below-by-requires Inv-loop μ-loop
+hash-below-by-requires c κs = let start = c .before .before .before .before .before .before in (start .pre .0 .0, start .pre .0 .1 .below _ (omega arith))
+
+within : (c : tie.After-wide Inv-loop μ-loop) → c .wide .result < c .before .before .before .before .before .before .before .before .args .h .places
+within c = omega (arith, c .wide .ensures .value, c .before .hash-below-by .ensures .range)
+
+loop-again : tie.Need-loop-again Inv-loop μ-loop
+loop-again c =
+    let test = c .before .before .before in
+    let h = test .before .loop .inv in
+    let own = c .before .hash-below-by .ensures .value in (
+      placed-more (h .0) refl (test .loop-test .taken) (c .wide .result) (c .wide .ensures .value ∙ own) (within c),
+      (noted-more _ (test .before .loop .places) (h .1 .0) _ own, (simp length-set (h .1 .1 .0), simp length-set (h .1 .1 .1))),
+    )
+
+returns : tie.Need-returns Inv-loop μ-loop
+returns c =
+    let h = c .before .loop .inv in
+    let start = c .before .before .before .before .before in
+    let wide = start .pre .1 .0 .0 in (
+      record { each = h .1 .1 .0 ∙ start .pre .1 .1; places-are = λ j l. rw (← wide) (h .1 .0 j (omega arith) (omega arith)) },
+      rw (← wide) (placed-all (h .0) (c .loop-test .left)),
     )
 
 pub place-codes-spec : {M : Type 1} → statement M
 place-codes-spec =
     tie.close
     (tie.spec
+    Inv-loop
+    μ-loop
+    loop-holds
+    (λ c. omega arith)
+    (λ c. search needs)
+    (λ c. omega arith)
+    hash-below-by-requires
     (λ c κs. search needs)
-    (λ c. omega (arith, as-long (c .before .before), unplaced-few (c .before .before .before .before .before .before .pre .0)))
-    place-requires
-    (λ c. c .before .before .place .kept .1 .1 .1 .0 ∙ as-long (c .before .before .before .before .before .before))
-    (λ c. (c .before .before .before .before .before .before .more-multiplier .ensures .0, c .before .before .place .ensures)))
+    (λ c. search needs)
+    (λ c. omega (arith, within c, long (c .before .before .before .before .before .before .before .before)))
+    (λ c. search needs)
+    (λ c. omega arith)
+    (λ c. omega arith)
+    loop-again
+    (λ c. omega arith)
+    (λ c. omega arith)
+    returns)

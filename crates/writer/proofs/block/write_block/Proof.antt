@@ -19,6 +19,6 @@ write-block-spec =
     (λ c. sym (length-take-le _ _ (omega arith)))
     (λ c κs. let start = c .before .before .before .before .before .before .before in (start .pre .0, (length-take-le _ _ (omega arith), length-take-le _ _ (omega arith))))
     (λ c. length-front (c .before .before .before .before .before .before .before .before .before .before .before .before .before .before .args .own .now) (c .before .before .before .before .before .before .write-more .last .1 .1 .0) (c .before .before .before .before .before .before .before .before .before .before .before .before .before .before .args .b .codes) (c .before .before .before .before .before .before .write-more .kept .1 .1 .0))
-    (λ c. length-front (c .before .before .before .before .before .before .before .before .before .before .before .before .before .before .args .values .now) (c .before .before .before .before .before .before .write-more .last .1 .1 .1 .0) (c .before .before .before .before .before .before .before .before .before .before .before .before .before .before .args .b .codes) (c .before .before .before .before .before .before .write-more .kept .1 .1 .1 .0))
+    (λ c. length-front (c .before .before .before .before .before .before .before .before .before .before .before .before .before .before .args .places .now) (c .before .before .before .before .before .before .write-more .last .1 .1 .1 .0) (c .before .before .before .before .before .before .before .before .before .before .before .before .before .before .args .b .codes) (c .before .before .before .before .before .before .write-more .kept .1 .1 .1 .0))
     (λ c. c .before .before .before .before .before .before .write-more .kept .1 .1 .1 .1 .0)
     (λ c. c .before .before .before .before .before .before .write-more .ensures))

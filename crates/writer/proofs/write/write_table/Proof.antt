@@ -19,12 +19,12 @@ use Rattle.writer.proofs.write.write_table.Statement.{statement}
 use Rattle.writer.proofs.write.write_table.Tie as tie
 
 abbrev Inv-loop : tie.InvT-loop
-Inv-loop shape codes schedules blocks loads words₀ shared own₀ values₀ t₀ words own values t =
+Inv-loop shape codes schedules blocks loads words₀ shared own₀ places₀ t₀ words own places t =
     (words ≡ tableBut shape codes schedules (λ j. among j (drop t (take shared blocks))))
-    × ((length words ≡ length words₀) × ((length own ≡ few) × ((length values ≡ few) × (t ≤ shared))))
+    × ((length words ≡ length words₀) × ((length own ≡ few) × ((length places ≡ few) × (t ≤ shared))))
 
 abbrev μ-loop : tie.MeasureT-loop
-μ-loop shape codes schedules blocks loads words₀ shared own₀ values₀ t₀ words own values t = shared - t
+μ-loop shape codes schedules blocks loads words₀ shared own₀ places₀ t₀ words own places t = shared - t
 
 -- the blocks that are listed, and the words before the first of them
 module _ (c : tie.After-list-shared Inv-loop μ-loop) where
