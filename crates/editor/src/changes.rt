@@ -13,6 +13,7 @@ use table::limits::FEW;
 use table::limits::ROOM;
 use table::numbers::one;
 use table::numbers::wide;
+use writer::valid::write_empty;
 use writer::valid::write_valid;
 
 // How the list is changed: the code is left out, and where `added` is 1, not 0, put in with a schedule.
@@ -114,13 +115,17 @@ fn write_listed(
     write_valid(p, &codes[..m], &schedules[..m], second)
 }
 
-// The same with room of its own.
+// The same with room of its own. The empty list needs none: no room is cleared for a table of three words.
 pub(crate) fn write_changed(p: u32, words: &[u32], change: Change, second: &mut [u32]) -> u32
     requires { ⌜ Searchable p (codesOf (changed change (pairsIn (now words)))) ⌝ }
     requires { ⌜ Changing (now words) change ⌝ }
     ensures { λ r. ⌜ ChangedBuilt p (now (words .entry)) change (now (second .entry)) r (now (second .exit)) ⌝ }
 {
-    if change.added + change.others <= FEW {
+    let m = change.added + change.others;
+    if m == 0 {
+        return write_empty(second);
+    }
+    if m <= FEW {
         let mut codes = [0u32; FEW];
         let mut schedules = [0u32; FEW];
         return write_listed(p, words, change, &mut codes, &mut schedules, second);

@@ -22,7 +22,7 @@ use Rattle.search.specs.code.Blocks.{countOf, Blocked, Counted}
 use Rattle.search.proofs.Ends.{drop-before, together-drop}
 
 -- blocks and loads that are known place by place
-pub blocked-each :
+blocked-each :
     {p k : ℕ} {codes blocks counts : List ℕ} → (length blocks ≡ length codes) × (length counts ≡ length codes)
     → ((i : ℕ) → i < length codes → getD blocks i 0 ≡ hashOf p k (length codes) (getD codes i 0))
     → ((t : ℕ) → t < length codes → getD counts t 0 ≡ load p k (length codes) t codes) → Blocked p k codes blocks counts

@@ -1,32 +1,19 @@
 -- The search for k: what a counting under k tells, and that the search ends at the least k that keeps the bound.
 use Prim.Native.Nat.{ℕ, _+_, _<_}
-use native.Mathlib.Omega.{arith}
 use mathlib.Core.Bool.{false}
-use mathlib.Core.List.{List, [], _∷_}
+use mathlib.Core.List.{List}
 use mathlib.Core.Logic.{inl, inr}
-use mathlib.Core.Path.{_≡_, refl}
+use mathlib.Core.Path.{_≡_}
 use lib.ListN.{length}
-use Rattle.hash.specs.Hash.{sum, cells}
+use Rattle.hash.specs.Hash.{cells}
 use Rattle.hash.proofs.Indicators.{true-or-false}
 use Rattle.table.specs.TwoLevel.{blocksMultiplier}
 use Rattle.table.proofs.Chosen.{blocks-least}
 use Rattle.search.specs.declared.blocks.Count.{Count}
 use Rattle.search.specs.declared.blocks.Count.the-variants.{Fits, TooMany}
 use Rattle.search.specs.code.Searchable.{Searchable}
-use Rattle.search.specs.code.Blocks.{keeps, countOf, Blocked, LeastBlocks}
-use Rattle.search.proofs.Counts.{blocked-each}
+use Rattle.search.specs.code.Blocks.{keeps, countOf, LeastBlocks}
 use Rattle.search.proofs.Tries.{Trying, trying-start, trying-more, trying-found}
-
--- the empty list
-pub blocks-none : (p : ℕ) (codes : List ℕ) → length codes ≡ 0 → LeastBlocks p codes 1 0
-unfolding blocksMultiplier cells sum
-blocks-none p [] none = record { multiplier = refl; cells = refl }
-blocks-none p (a ∷ s) none = absurd (omega arith)
-
-pub none-blocked :
-    {p k : ℕ} {codes blocks counts : List ℕ} → length codes ≡ 0 → (length blocks ≡ length codes) × (length counts ≡ length codes)
-    → Blocked p k codes blocks counts
-none-blocked none sized = blocked-each sized (λ i l. absurd (omega arith)) (λ t l. absurd (omega arith))
 
 -- k is to be tried
 abbrev pub TryingBlocks : ℕ → List ℕ → ℕ → Type 0

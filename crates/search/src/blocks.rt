@@ -1,5 +1,6 @@
 // The least multiplier k of a list: each k is tried by counting the codes of its blocks. Theory: source 000, lemma 2, which is lemma 1 with n places for
 // n codes: some k below p gives fewer than 3n cells, so the search ends. The cells have the parity of n, so that fewer than 3n is at most 3n - 2.
+ghost use Prim.Native.Nat.{_<_};
 ghost use mathlib.Core.Path.{_≡_};
 ghost use lib.ListN.{length, replicate};
 ghost use Rattle.hash.specs.code.Contract.{Hashing};
@@ -56,22 +57,19 @@ fn count_cells(h: Hasher, codes: &[u32], blocks: &mut [u16], counts: &mut [u16])
     Count::Fits(c)
 }
 
-// The least multiplier from 1 to p - 1 that keeps the cells at most 3n - 2, and the cells under it. A list of no code has k = 1 and no
-// cell. The search never gives up: by the lemma the loop is left by its answer alone.
+// The least multiplier from 1 to p - 1 that keeps the cells of a list with a code at most 3n - 2, and the cells under it. The search never gives up: by the
+// lemma the loop is left by its answer alone.
 pub fn blocks_multiplier(
     p: u32,
     codes: &[u32],
     blocks: &mut [u16],
     counts: &mut [u16],
 ) -> Multiplier
-    requires { ⌜ Searchable p (now codes) ⌝ }
+    requires { ⌜ Searchable p (now codes) × (0 < length (now codes)) ⌝ }
     requires { ⌜ (length (now blocks) ≡ length (now codes)) × (length (now counts) ≡ length (now codes)) ⌝ }
     ensures { λ r. ⌜ LeastBlocks p (now (codes .entry)) (r .k) (r .c) ⌝ }
     ensures { λ r. ⌜ Blocked p (r .k) (now (codes .entry)) (now (blocks .exit)) (now (counts .exit)) ⌝ }
 {
-    if codes.len() == 0 {
-        return Multiplier { k: 1, c: 0 };
-    }
     let n = codes.len() as u32;
     let reciprocal = hash::reciprocal(p, n);
     let mut k = 1;

@@ -10,4 +10,4 @@ mod Fronts
 mod Gathering
 mod Listing
 mod Sharing
-mod Totals
+pub mod Totals

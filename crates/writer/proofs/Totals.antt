@@ -2,24 +2,23 @@
 use Prim.Native.Nat.{ℕ, _+_, _*_, _<_, _≤_}
 use mathlib.Core.List.{List, [], _∷_, _++_}
 use mathlib.Core.Path.{_≡_, refl, sym, ap, _∙_}
-use native.Mathlib.Decide.{ℕ-discrete}
 use native.Mathlib.Omega.{arith}
 use borrow.Author.Tests.{lt-ltb, le-ltb}
-use lib.ListN.{length, getD, drop}
-use Rattle.hash.specs.Hash.{cells}
+use lib.ListN.{length, getD, drop, set, drop-of-length-le}
+use Rattle.hash.specs.Hash.{sum, cells}
 use Rattle.table.specs.Answers.{Answer, given, refused, filled, intoRoom}
-use Rattle.table.specs.TwoLevel.{frontWith, frontOf, tableWith, tableOf, cellsOf, wordsNeeded}
+use Rattle.table.specs.TwoLevel.{tabulate, blocksMultiplier, frontWith, frontOf, tableWith, tableOf, cellsOf, wordsNeeded}
 use Rattle.table.proofs.Tabulate.{tabulate-at}
-use Rattle.table.proofs.Chosen.{few-cells, no-cells}
+use Rattle.table.proofs.Chosen.{few-cells}
 use Rattle.table.proofs.Contents.{needed-is, table-length}
 use Rattle.search.specs.code.Searchable.{Searchable}
 use Rattle.table.specs.Limits.{room}
 use Rattle.search.specs.code.Blocks.{LeastBlocks, Blocked}
 use Rattle.writer.specs.code.Grouping.{BlockOfEach, Loads}
 use Rattle.writer.specs.code.Writing.{Writable}
-use Rattle.writer.specs.code.Valid.{ValidBuilt}
+use Rattle.writer.specs.code.Valid.{ValidBuilt, EmptyBuilt}
 
-module _ {p k c : ℕ} {codes : List ℕ} (s : Searchable p codes) (f : LeastBlocks p codes k c) where
+module _ {p k c : ℕ} {codes : List ℕ} (f : LeastBlocks p codes k c) where
   cells-is : c ≡ cellsOf p codes
   unfolding cellsOf
   cells-is = f .cells ∙ ap (λ (q : ℕ). cells p q codes) (f .multiplier)
@@ -30,22 +29,18 @@ module _ {p k c : ℕ} {codes : List ℕ} (s : Searchable p codes) (f : LeastBlo
   total-is : total ≡ wordsNeeded p codes
   total-is = omega (arith, needed-is p codes, cells-is)
 
-  -- c is at most 3n
-  few : c ≤ 3 * length codes
-  few =
-      elim (ℕ-discrete (length codes) 0) [
-        | yes none ↦ omega (arith, cells-is, no-cells p codes none)
-        | no some ↦ omega (arith, cells-is, few-cells (s .prime) codes (s .valid) (omega arith))
-      ]
+  module _ (s : Searchable p codes) (some : 0 < length codes) where
+    few : c ≤ 3 * length codes
+    few = omega (arith, cells-is, few-cells (s .prime) codes (s .valid) some)
 
-  pub total-fits : total < 4294967296
-  total-fits = omega (arith, few, s .few)
+    pub total-fits : total < 4294967296
+    total-fits = omega (arith, few, s .few)
 
-  pub valid-writable :
-      (schedules : List ℕ) → length schedules ≡ length codes
-      → Writable (record { prime = p; multiplier = k; codes = length codes; cells = c }) codes schedules
-  valid-writable schedules parallel =
-      record { searchable = s; codes-are = refl; cells-are = f .cells; few-cells = few; parallel = parallel }
+    pub valid-writable :
+        (schedules : List ℕ) → length schedules ≡ length codes
+        → Writable (record { prime = p; multiplier = k; codes = length codes; cells = c }) codes schedules
+    valid-writable schedules parallel =
+        record { searchable = s; codes-are = refl; cells-are = f .cells; few-cells = few; parallel = parallel }
 
   module _ (schedules words : List ℕ) where
     pub too-short : length words < total → ValidBuilt p codes schedules words total words
@@ -72,6 +67,26 @@ module _ {p k c : ℕ} {codes : List ℕ} (s : Searchable p codes) (f : LeastBlo
               ∙ ap (λ (m : ℕ). tableOf p codes schedules ++ drop m words) (sym size)
               ∙ sym (ap (λ (r : Answer). filled r (tableOf p codes schedules) words) e);
         }
+
+-- ---- the empty list
+
+module _ (p : ℕ) where
+  pub none-least : LeastBlocks p [] 1 0
+  unfolding blocksMultiplier cells sum
+  none-least = record { multiplier = refl; cells = refl }
+
+  pub empty-written : (words : List ℕ) → 3 ≤ length words → ValidBuilt p [] [] words 3 (set (set (set words 0 0) 1 0) 2 1)
+  unfolding tableWith frontWith tabulate cells sum
+  empty-written [] l = absurd (omega arith)
+  empty-written (x ∷ []) l = absurd (omega arith)
+  empty-written (x ∷ y ∷ []) l = absurd (omega arith)
+  empty-written (x ∷ y ∷ z ∷ words) l = valid-written none-least [] (x ∷ y ∷ z ∷ words) (0 ∷ 0 ∷ 1 ∷ []) l refl
+
+pub empty-built :
+    {p : ℕ} {codes schedules words words′ : List ℕ} {total : ℕ} → length codes ≡ 0 → length schedules ≡ length codes → EmptyBuilt words total words′
+    → ValidBuilt p codes schedules words total words′
+empty-built {p} {codes} {schedules} none same built =
+    rw (drop-of-length-le codes {i = 0} (omega arith), drop-of-length-le schedules {i = 0} (omega arith)) (built p)
 
 -- ---- what the search for k leaves
 

@@ -6,7 +6,7 @@ use native.Mathlib.Omega.{arith}
 use borrow.Author.Needs.{needs}
 use lib.ListN.{length}
 use Rattle.hash.proofs.Reciprocals.{ready}
-use Rattle.search.proofs.LeastBlocks.{TryingBlocks, blocks-none, none-blocked, blocks-start, blocks-found, blocks-more}
+use Rattle.search.proofs.LeastBlocks.{TryingBlocks, blocks-start, blocks-found, blocks-more}
 use Rattle.search.proofs.blocks.blocks_multiplier.Statement.{statement}
 use Rattle.search.proofs.blocks.blocks_multiplier.Tie as tie
 
@@ -17,18 +17,13 @@ Inv-loop p codes blocks₀ counts₀ n reciprocal k₀ blocks counts k =
 abbrev μ-loop : tie.MeasureT-loop
 μ-loop p codes blocks₀ counts₀ n reciprocal k₀ blocks counts k = p - k
 
-returns : tie.Need-returns Inv-loop μ-loop
-returns c =
-    let start = c .before .before .before .before in
-    (blocks-none (start .args .p) (start .args .codes .now) (c .if1 .taken), none-blocked (c .if1 .taken) (start .pre .1))
-
 loop-holds : tie.Need-loop-holds Inv-loop μ-loop
-loop-holds c = let start = c .before .before .before .before .before in (blocks-start (start .pre .0) (omega arith), start .pre .1)
+loop-holds c = let start = c .before .before .before .before in (blocks-start (start .pre .0 .0) (start .pre .0 .1), start .pre .1)
 
 count-cells-requires : tie.Need-count-cells-requires Inv-loop μ-loop
 count-cells-requires c κs =
     let h = c .before .before .before in
-    let start = h .before .before .before .before .before .before in (
+    let start = h .before .before .before .before .before in (
       (
         record {
           below = omega (arith, h .loop .inv .0 .upto, h .loop .inv .0 .least .below);
@@ -36,14 +31,14 @@ count-cells-requires c κs =
         },
         refl,
       ),
-      record { below = start .pre .0 .valid .below; some = omega arith; few = start .pre .0 .few; sized = h .loop .inv .1 },
+      record { below = start .pre .0 .0 .valid .below; some = start .pre .0 .1; few = start .pre .0 .0 .few; sized = h .loop .inv .1 },
     )
 
-returns-2 : tie.Need-returns-2 Inv-loop μ-loop
-returns-2 c =
+returns : tie.Need-returns Inv-loop μ-loop
+returns c =
     let called = c .before .before .before .before .before .before .before in
     let h = called .before .before .before .before in
-    let codes = h .before .before .before .before .before .before .args .codes .now in (
+    let codes = h .before .before .before .before .before .args .codes .now in (
       blocks-found codes (h .loop .inv .0) (called .count-cells .ensures .answers) (c .before .count .given .1),
       called .count-cells .ensures .leaves _ (c .before .count .given .1),
     )
@@ -52,14 +47,14 @@ loop-again : tie.Need-loop-again Inv-loop μ-loop
 loop-again c =
     let called = c .before .before .before .before .before .before in
     let h = called .before .before .before .before in
-    let codes = h .before .before .before .before .before .before .args .codes .now in (
+    let codes = h .before .before .before .before .before .args .codes .now in (
       blocks-more codes (h .loop .inv .0) (called .count-cells .ensures .answers) (c .enum-told .given .1),
       search needs,
     )
 
 -- the loop is left by its answer alone: the least multiplier is below p
-returns-3 : tie.Need-returns-3 Inv-loop μ-loop
-returns-3 c = absurd (omega arith)
+returns-2 : tie.Need-returns-2 Inv-loop μ-loop
+returns-2 c = absurd (omega arith)
 
 pub blocks-multiplier-spec : {M : Type 1} → statement M
 blocks-multiplier-spec =
@@ -67,7 +62,6 @@ blocks-multiplier-spec =
     (tie.spec
     Inv-loop
     μ-loop
-    returns
     (λ c. omega arith)
     (λ c κs. omega arith)
     loop-holds
@@ -75,11 +69,11 @@ blocks-multiplier-spec =
     (λ c. search needs)
     (λ c. search needs)
     (λ c. search needs)
-    returns-2
+    returns
     (λ c. search needs)
     (λ c. omega arith)
     (λ c. omega arith)
     loop-again
     (λ c. search needs)
     (λ c. search needs)
-    returns-3)
+    returns-2)

@@ -29,17 +29,17 @@ module _ (c : tie.After-wide) where
   total = 3 + 2 * length (start .args .codes .now) + 2 * c .wide .result
 
   fits : total < 4294967296
-  fits = total-fits (start .pre .0 .0) least
+  fits = total-fits least (start .pre .0 .0) (start .pre .0 .1 .0)
 
 returns : tie.Need-returns
-returns c = let shaped = c .before .before .before in too-short (start shaped .pre .0 .0) (least shaped) _ _ (c .if1 .taken)
+returns c = let shaped = c .before .before .before in too-short (least shaped) _ _ (c .if1 .taken)
 
 write-table-requires : tie.Need-write-table-requires
 write-table-requires c κs =
     let shaped = c .before .before .before .before .before .before in
     let begun = start shaped in
     let left = found shaped .blocks-multiplier in (
-      valid-writable (begun .pre .0 .0) (least shaped) _ (begun .pre .0 .1),
+      valid-writable (least shaped) (begun .pre .0 .0) (begun .pre .0 .1 .0) _ (begun .pre .0 .1 .1),
       (
         blocked-blocks (left .ensures .1) (begun .pre .0 .0 .few) (left .kept .1 .1 .0 ∙ begun .pre .1 .0),
         (blocked-loads (left .ensures .1) (left .kept .1 .1 .1 .0 ∙ begun .pre .1 .1), length-take-le _ _ (c .before .before .before .if1 .left)),
@@ -49,13 +49,13 @@ write-table-requires c κs =
 returns-2 : tie.Need-returns-2
 returns-2 c =
     let shaped = c .before .before .before .before .before .before .before .before .before .before .before in
-    valid-written (start shaped .pre .0 .0) (least shaped) _ _ _ (c .before .before .before .before .before .before .before .before .if1 .left) (c .before .before .before .before .write-table .ensures)
+    valid-written (least shaped) _ _ _ (c .before .before .before .before .before .before .before .before .if1 .left) (c .before .before .before .before .write-table .ensures)
 
 pub write-with-spec : {M : Type 1} → statement M
 write-with-spec =
     tie.close
     (tie.spec
-    (λ c κs. let start = c .before .before .before .before .before .before .before in (start .pre .0 .0, start .pre .1))
+    (λ c κs. let start = c .before .before .before .before .before .before .before in ((start .pre .0 .0, start .pre .0 .1 .0), start .pre .1))
     (λ c κs. search needs)
     (λ c. omega (arith, fits (c .before)))
     (λ c. omega (arith, fits (c .before)))
