@@ -39,7 +39,7 @@ fn elsewhere(h: Hasher, j: u32, a: u32) -> bool
     requires { ⌜ Hashing h × (a < h .prime) ⌝ }
     ensures { λ r. ⌜ r ≡ elsewhere h j a ⌝ }
 {
-    hash::hash_below_by(h, a) != j
+    hash::hash_by(h, a) != j
 }
 
 // Place t of the block is not code a's own.
@@ -48,7 +48,7 @@ fn not_own(h: Hasher, b: BlockHash, t: usize, a: u32) -> bool
     requires { ⌜ (b .multiplier < h .prime) × (0 < b .cells) ⌝ }
     ensures { λ r. ⌜ r ≡ notOwn h b t a ⌝ }
 {
-    let place = wide(hash::hash_below(h.prime, b.multiplier, b.cells, a));
+    let place = wide(hash::hash(h.prime, b.multiplier, b.cells, a));
     elsewhere(h, b.number, a) | (place != t)
 }
 

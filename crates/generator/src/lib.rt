@@ -1,5 +1,5 @@
 // A studio's own test load (document 02, Change 2): the same list on every bench. A refusal changes no place.
-use hash::residue_below;
+use hash::residue;
 use table::limits::MOST_PAIRS;
 ghost use Prim.Native.Nat.{_+_, _%_, _≤_};
 ghost use mathlib.Core.Path.{_≡_};
@@ -37,7 +37,7 @@ fn fill(length: usize, codes: &mut [u32], schedules: &mut [u32])
     let mut schedule: u32 = 1;
     let mut i: usize = 0;
     while i < length {
-        code = residue_below(65537, 75, code);
+        code = residue(65537, 75, code);
         codes[i] = code;
         schedules[i] = schedule;
         schedule = next_schedule(schedule);

@@ -32,7 +32,7 @@ fn product(k: u32, a: u32) -> u64
 }
 
 // (k × a) mod p. Multipliers and codes are below p wherever they are hashed, so none is tested here.
-pub fn residue_below(p: u32, k: u32, a: u32) -> u32
+pub fn residue(p: u32, k: u32, a: u32) -> u32
     requires { ⌜ k < p ⌝ }
     requires { ⌜ a < p ⌝ }
     ensures { λ r. ⌜ Remainder (k * a) p r ⌝ }
@@ -72,17 +72,17 @@ fn remainder_by(p: u32, w: u32, reciprocal: u64, x: u32) -> u32
 }
 
 // The place of code a among w places: ((k × a) mod p) mod w.
-pub fn hash_below(p: u32, k: u32, w: u32, a: u32) -> u32
+pub fn hash(p: u32, k: u32, w: u32, a: u32) -> u32
     requires { ⌜ k < p ⌝ }
     requires { ⌜ a < p ⌝ }
     requires { ⌜ 0 < w ⌝ }
     ensures { λ r. ⌜ Hashed p k w a r ⌝ }
 {
-    residue_below(p, k, a) % w
+    residue(p, k, a) % w
 }
 
 // The same for many codes among the same places.
-pub fn hash_below_by(h: Hasher, a: u32) -> u32
+pub fn hash_by(h: Hasher, a: u32) -> u32
     requires { ⌜ Hashing h ⌝ }
     requires { ⌜ a < h .prime ⌝ }
     ensures { λ r. ⌜ Hashed (h .prime) (h .multiplier) (h .places) a r ⌝ }
@@ -91,6 +91,6 @@ pub fn hash_below_by(h: Hasher, a: u32) -> u32
         h.prime,
         h.places,
         h.reciprocal,
-        residue_below(h.prime, h.multiplier, a),
+        residue(h.prime, h.multiplier, a),
     )
 }

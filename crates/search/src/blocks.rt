@@ -45,7 +45,7 @@ fn count_cells(h: Hasher, codes: &[u32], blocks: &mut [u16], counts: &mut [u16])
     let mut i = codes.len();
     while 0 < i {
         i -= 1;
-        let t = hash::hash_below_by(h, codes[i]);
+        let t = hash::hash_by(h, codes[i]);
         blocks[i] = t as u16;
         let m = counts[t as usize] as u32;
         c += 2 * m + 1;

@@ -21,7 +21,7 @@ fn undo(h: Hasher, block: &[u32], from: usize, cells: &mut [u32])
 {
     let mut i = from;
     while i < block.len() {
-        let t = hash::hash_below_by(h, block[i]) as usize;
+        let t = hash::hash_by(h, block[i]) as usize;
         cells[t] = 0;
         i += 1;
     }
@@ -37,7 +37,7 @@ fn place_block(h: Hasher, block: &[u32], cells: &mut [u32]) -> bool
     let mut i = block.len();
     while 0 < i {
         let a = block[i - 1];
-        let t = hash::hash_below_by(h, a) as usize;
+        let t = hash::hash_by(h, a) as usize;
         if cells[t] != 0 {
             undo(h, block, i, cells);
             return false;
@@ -85,7 +85,7 @@ fn apart(h: Hasher, block: &[u32]) -> bool
     let mut i = block.len();
     while 0 < i {
         i -= 1;
-        let bit = 1u64 << hash::hash_below_by(h, block[i]);
+        let bit = 1u64 << hash::hash_by(h, block[i]);
         shared = shared | (taken & bit);
         taken = taken | bit;
     }
@@ -119,7 +119,7 @@ fn collide(p: u32, q: u32, a: u32, b: u32) -> bool
     requires { ⌜ (q < p) × ((a < p) × (b < p)) ⌝ }
     ensures { λ r. ⌜ r ≡ eqb (hashOf p q 4 a) (hashOf p q 4 b) ⌝ }
 {
-    hash::residue_below(p, q, a) % 4 == hash::residue_below(p, q, b) % 4
+    hash::residue(p, q, a) % 4 == hash::residue(p, q, b) % 4
 }
 
 // The least multiplier of two codes. Nearly all have one of the first three, which is found branch-free; the loop's test is seldom mispredicted. The

@@ -48,7 +48,7 @@ fn cell_at(p: u32, n: u32, start: u32, m: u32, q: u32, code: u32) -> usize
     requires { ⌜ (q < p) × (code < p) ⌝ }
     ensures { λ r. ⌜ Within (cellAt p n start m q code) (3 + 2 * n + (start + m)) r ⌝ }
 {
-    let cell = wide(start) + wide(hash::hash_below(p, q, larger(1, m), code));
+    let cell = wide(start) + wide(hash::hash(p, q, larger(1, m), code));
     if m == 0 {
         return 0;
     }

@@ -135,7 +135,7 @@ pub(crate) fn block_of(p: u32, words: &[u32], code: u32) -> usize
     requires { ⌜ (multiplier (now words) < p) × (code < p) ⌝ }
     ensures { λ r. ⌜ Within (blockOf p (now (words .entry)) code) (codeCount (now (words .entry))) r ⌝ }
 {
-    wide(hash::hash_below(p, words[2], words[0], code))
+    wide(hash::hash(p, words[2], words[0], code))
 }
 
 // The same hash for many codes.
@@ -160,5 +160,5 @@ pub(crate) fn cell_in(p: u32, words: &[u32], j: usize, code: u32) -> usize
 {
     let start = block_start(words, j);
     let cells = block_end(words, j) - start;
-    wide(start) + wide(hash::hash_below(p, block_multiplier(words, j), cells, code))
+    wide(start) + wide(hash::hash(p, block_multiplier(words, j), cells, code))
 }

@@ -43,7 +43,7 @@ fn place_codes(h: Hasher, block: &[u32], places: &mut [u32], cells: &mut [u32])
     while 0 < i {
         i -= 1;
         let a = block[i];
-        let t = hash::hash_below_by(h, a);
+        let t = hash::hash_by(h, a);
         cells[wide(t)] = a;
         places[i] = t;
     }
@@ -128,8 +128,8 @@ fn write_two(p: u32, b: Block, words: &mut [u32]) -> u32
     let v = words[second];
     let u = words[second + 1];
     let q = two_multiplier(p, a, c);
-    let x = wide(hash::residue_below(p, q, a) % 4);
-    let y = wide(hash::residue_below(p, q, c) % 4);
+    let x = wide(hash::residue(p, q, a) % 4);
+    let y = wide(hash::residue(p, q, c) % 4);
     place_two(x, y, a, c, &mut words[start..end]);
     place_two(x, y, v, u, &mut words[second..last]);
     q

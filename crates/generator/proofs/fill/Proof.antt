@@ -16,14 +16,14 @@ abbrev μ-loop : tie.MeasureT-loop
 μ-loop length codes₀ schedules₀ code₀ schedule₀ i₀ codes schedules code schedule i = length - i
 
 -- after the next code is worked out
-known : (c : tie.After-residue-below Inv-loop μ-loop) →
+known : (c : tie.After-residue Inv-loop μ-loop) →
     let l = c .before .before in
     let a = l .before .before .before .args in
     Next (a .length) (a .codes .now) (a .schedules .now) (l .loop .i) (l .loop .schedule) (l .loop .codes) (l .loop .schedules)
-    (c .residue-below .result)
+    (c .residue .result)
 known c =
     let l = c .before .before in
-    next (l .before .before .before .pre) (l .loop .inv) (c .before .loop-test .taken) (c .residue-below .ensures)
+    next (l .before .before .before .pre) (l .loop .inv) (c .before .loop-test .taken) (c .residue .ensures)
 
 pub fill-spec : {M : Type 1} → statement M
 fill-spec =

@@ -25,15 +25,15 @@ module _ (c : tie.Else1) where
   range : outside 1 (start .args .h .prime - 1) (start .args .code) ≡ false
   range = sym (c .before .outside .ensures) ∙ c .if1 .left
 
-hash-below-by-requires : tie.Need-hash-below-by-requires
-hash-below-by-requires c κs = (start c .pre .1 .hashed, below-prime _ _ (range c))
+hash-by-requires : tie.Need-hash-by-requires
+hash-by-requires c κs = (start c .pre .1 .hashed, below-prime _ _ (range c))
 
 in-block-requires : tie.Need-in-block-requires
 in-block-requires c κs =
     let past = c .before .before in
     let h = start past .pre in (
       below-prime _ _ (range past),
-      record { whole = sized (h .0 .sizes) .whole; below = omega (arith, c .wide .ensures .value, c .before .hash-below-by .ensures .range, h .1 .blocks-is) },
+      record { whole = sized (h .0 .sizes) .whole; below = omega (arith, c .wide .ensures .value, c .before .hash-by .ensures .range, h .1 .blocks-is) },
     )
 
 returns-2 : tie.Need-returns-2
@@ -44,7 +44,7 @@ returns-2 c =
     let h = start past .pre in
     c .in-block .ensures
     ∙ ap (inBlock (start past .args .h .prime) (start past .args .words .now) (start past .args .code))
-    (c .before .wide .ensures .value ∙ hashed .hash-below-by .ensures .value ∙ ap₂ (λ (k n : ℕ). hashOf (start past .args .h .prime) k n (start past .args .code)) (h .1 .multiplier-is) (h .1 .blocks-is))
+    (c .before .wide .ensures .value ∙ hashed .hash-by .ensures .value ∙ ap₂ (λ (k n : ℕ). hashOf (start past .args .h .prime) k n (start past .args .code)) (h .1 .multiplier-is) (h .1 .blocks-is))
     ∙ sym (lookup-block _ _ _ _ (range past) (h .0 .three) (h .0 .sizes) (λ none. omega (arith, h .0 .some)))
 
 pub lookup-in-spec : {M : Type 1} → statement M
@@ -54,7 +54,7 @@ lookup-in-spec =
     (λ c. search needs)
     (λ c κs. search needs)
     returns
-    hash-below-by-requires
+    hash-by-requires
     (λ c κs. search needs)
     in-block-requires
     returns-2)

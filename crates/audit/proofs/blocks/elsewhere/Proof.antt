@@ -7,7 +7,7 @@ use Rattle.audit.proofs.blocks.elsewhere.Tie as tie
 
 returns : tie.Need-returns
 unfolding elsewhere
-returns c = rw (← c .hash-below-by .ensures .value) refl
+returns c = rw (← c .hash-by .ensures .value) refl
 
 pub elsewhere-spec : {M : Type 1} → statement M
 elsewhere-spec = tie.close (tie.spec (λ c κs. search needs) returns)

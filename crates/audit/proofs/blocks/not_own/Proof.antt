@@ -25,7 +25,7 @@ own-is h b t a =
 returns : tie.Need-returns
 returns c =
     let a = c .before .before .before .args in
-    rw (c .elsewhere .ensures, c .before .wide .ensures .value, c .before .before .hash-below .ensures .value)
+    rw (c .elsewhere .ensures, c .before .wide .ensures .value, c .before .before .hash .ensures .value)
     (own-is (a .h) (a .b) (a .t) (a .a))
 
 pub not-own-spec : {M : Type 1} → statement M

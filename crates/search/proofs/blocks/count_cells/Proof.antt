@@ -22,43 +22,43 @@ loop-holds c =
     let start = called .before .before .before .before .before in
     (counting-start (start .pre .1 .some) (start .pre .1 .sized .0) (start .pre .1 .sized .1) (called .clear .ensures), (refl, refl))
 
-hash-below-by-requires : tie.Need-hash-below-by-requires Inv-loop μ-loop
-hash-below-by-requires c κs =
+hash-by-requires : tie.Need-hash-by-requires Inv-loop μ-loop
+hash-by-requires c κs =
     let test = c .before in
     let start = test .before .before .before .before .before .before .before .before .before .before in
     (start .pre .0 .0, start .pre .1 .below _ (omega arith))
 
 -- the place of the code among as many blocks as codes, and the count of its block, as it is read
-module _ (c : tie.After-hash-below-by Inv-loop μ-loop) where
+module _ (c : tie.After-hash-by Inv-loop μ-loop) where
   abbrev start : tie.Start Inv-loop μ-loop
   start = c .before .before .before .before .before .before .before .before .before .before .before .before
 
   own :
-      c .hash-below-by .result
+      c .hash-by .result
       ≡ hashOf (start .args .h .prime) (start .args .h .multiplier) (length (start .args .codes .now)) (getD (start .args .codes .now) (c .before .before .before .loop .i - 1) 0)
-  own = rw (← start .pre .0 .1) (c .hash-below-by .ensures .value)
+  own = rw (← start .pre .0 .1) (c .hash-by .ensures .value)
 
-  within : c .hash-below-by .result < length (start .args .codes .now)
-  within = omega (arith, c .hash-below-by .ensures .range, start .pre .0 .1)
+  within : c .hash-by .result < length (start .args .codes .now)
+  within = omega (arith, c .hash-by .ensures .range, start .pre .0 .1)
 
-  load : getD (c .before .before .before .loop .counts) (c .hash-below-by .result) 0 ≤ length (start .args .codes .now)
+  load : getD (c .before .before .before .loop .counts) (c .hash-by .result) 0 ≤ length (start .args .codes .now)
   load =
       let test = c .before .before in
-      counting-load (test .before .loop .inv .0) (test .loop-test .taken) (c .hash-below-by .result) own within
+      counting-load (test .before .loop .inv .0) (test .loop-test .taken) (c .hash-by .result) own within
 
 returns : tie.Need-returns Inv-loop μ-loop
 returns c =
     let called = c .before .before in
     let test = called .before .before in
     over-leaves
-    (counting-over (test .before .loop .inv .0) (test .loop-test .taken) (called .hash-below-by .result) (own called) (within called)
+    (counting-over (test .before .loop .inv .0) (test .loop-test .taken) (called .hash-by .result) (own called) (within called)
     (omega (arith, start called .pre .0 .1)))
 
 loop-again : tie.Need-loop-again Inv-loop μ-loop
 loop-again c =
     let called = c .before .before in
     let test = called .before .before in (
-      counting-more (test .before .loop .inv .0) (test .loop-test .taken) (called .hash-below-by .result) (own called) (within called)
+      counting-more (test .before .loop .inv .0) (test .loop-test .taken) (called .hash-by .result) (own called) (within called)
           (omega (arith, start called .pre .0 .1)),
       (simp length-set (test .before .loop .inv .1 .0), simp length-set (test .before .loop .inv .1 .1)),
     )
@@ -84,7 +84,7 @@ count-cells-spec =
     (λ c. omega arith)
     (λ c. search needs)
     (λ c. omega arith)
-    hash-below-by-requires
+    hash-by-requires
     (λ c. record { fits = omega (arith, within c, start c .pre .1 .few) })
     (λ c. search needs)
     (λ c. omega arith)

@@ -12,16 +12,16 @@ Inv-loop h block taken₀ shared₀ i₀ taken shared i = Taking (h .prime) (h .
 abbrev μ-loop : tie.MeasureT-loop
 μ-loop h block taken₀ shared₀ i₀ taken shared i = i
 
-hash-below-by-requires : tie.Need-hash-below-by-requires Inv-loop μ-loop
-hash-below-by-requires c κs =
+hash-by-requires : tie.Need-hash-by-requires Inv-loop μ-loop
+hash-by-requires c κs =
     let start = c .before .before .before .before in
     (start .pre .0 .0, start .pre .0 .1 .below _ (omega arith))
 
 loop-again : tie.Need-loop-again Inv-loop μ-loop
 loop-again c =
     let test = c .before .before in
-    taking-more (test .before .loop .inv) (test .loop-test .taken) (c .hash-below-by .result) (c .hash-below-by .ensures .value) _
-    (single-is (c .hash-below-by .result) (omega (arith, c .hash-below-by .ensures .range)))
+    taking-more (test .before .loop .inv) (test .loop-test .taken) (c .hash-by .result) (c .hash-by .ensures .value) _
+    (single-is (c .hash-by .result) (omega (arith, c .hash-by .ensures .range)))
 
 pub apart-spec : {M : Type 1} → statement M
 apart-spec =
@@ -33,9 +33,9 @@ apart-spec =
     (λ c. omega arith)
     (λ c. search needs)
     (λ c. omega arith)
-    hash-below-by-requires
+    hash-by-requires
     (λ c. search needs)
-    (λ c. omega (arith, c .hash-below-by .ensures .range))
+    (λ c. omega (arith, c .hash-by .ensures .range))
     (λ c. omega arith)
     loop-again
     (λ c. taking-all (c .before .loop .inv) (c .loop-test .left)))

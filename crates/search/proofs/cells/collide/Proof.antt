@@ -7,7 +7,7 @@ use Rattle.search.proofs.cells.collide.Tie as tie
 
 returns : tie.Need-returns
 unfolding hashOf
-returns c = rw (c .residue-below2 .ensures .value, c .before .residue-below .ensures .value) refl
+returns c = rw (c .residue2 .ensures .value, c .before .residue .ensures .value) refl
 
 pub collide-spec : {M : Type 1} → statement M
 collide-spec = tie.close (tie.spec (λ c κs. search needs) (λ c κs. search needs) returns)

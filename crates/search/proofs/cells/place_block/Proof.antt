@@ -17,8 +17,8 @@ abbrev μ-loop : tie.MeasureT-loop
 square-cells : (start : tie.Start Inv-loop μ-loop) → start .args .h .places ≡ square (start .args .block .now)
 square-cells start = start .pre .0 .1 ∙ unplaced-square (start .pre .1)
 
-hash-below-by-requires : tie.Need-hash-below-by-requires Inv-loop μ-loop
-hash-below-by-requires c κs =
+hash-by-requires : tie.Need-hash-by-requires Inv-loop μ-loop
+hash-by-requires c κs =
     let start = c .before .before .before .before .before in
     (start .pre .0 .0, start .pre .1 .codes .valid .below _ (omega arith))
 
@@ -37,8 +37,8 @@ returns c =
     let h = test .before in
     let start = h .before .before .before in
     tried-stop (start .pre .1) (square-cells start)
-    (placing-stop (h .loop .inv) (start .pre .1 .codes .valid) (test .loop-test .taken) (called .hash-below-by .result)
-    (called .hash-below-by .ensures .value) (called .hash-below-by .ensures .range) (found .if1 .taken))
+    (placing-stop (h .loop .inv) (start .pre .1 .codes .valid) (test .loop-test .taken) (called .hash-by .result)
+    (called .hash-by .ensures .value) (called .hash-by .ensures .range) (found .if1 .taken))
     (undone .undo .ensures)
 
 loop-again : tie.Need-loop-again Inv-loop μ-loop
@@ -46,8 +46,8 @@ loop-again c =
     let called = c .before .before in
     let test = called .before .before in
     let h = test .before in
-    placing-more (h .loop .inv) (h .before .before .before .pre .1 .codes .valid) (test .loop-test .taken) (called .hash-below-by .result)
-    (called .hash-below-by .ensures .value) (called .hash-below-by .ensures .range) (c .if1 .left)
+    placing-more (h .loop .inv) (h .before .before .before .pre .1 .codes .valid) (test .loop-test .taken) (called .hash-by .result)
+    (called .hash-by .ensures .value) (called .hash-by .ensures .range) (c .if1 .left)
 
 returns-2 : tie.Need-returns-2 Inv-loop μ-loop
 returns-2 c =
@@ -65,7 +65,7 @@ place-block-spec =
     (λ c. omega arith)
     (λ c. search needs)
     (λ c. omega arith)
-    hash-below-by-requires
+    hash-by-requires
     (λ c. search needs)
     (λ c. search needs)
     (λ c. omega arith)

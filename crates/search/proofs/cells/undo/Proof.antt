@@ -15,16 +15,16 @@ Inv-loop h block from cells₀ i₀ cells i = Placing (h .prime) (h .multiplier)
 abbrev μ-loop : tie.MeasureT-loop
 μ-loop h block from cells₀ i₀ cells i = length block - i
 
-hash-below-by-requires : tie.Need-hash-below-by-requires Inv-loop μ-loop
-hash-below-by-requires c κs =
+hash-by-requires : tie.Need-hash-by-requires Inv-loop μ-loop
+hash-by-requires c κs =
     let start = c .before .before .before .before .before in
     (start .pre .0 .0, start .pre .0 .1 .below _ (c .before .loop-test .taken))
 
 loop-again : tie.Need-loop-again Inv-loop μ-loop
 loop-again c =
     let test = c .before .before in
-    placing-less (test .before .loop .inv) (test .loop-test .taken) (c .hash-below-by .result) (c .hash-below-by .ensures .value)
-    (c .hash-below-by .ensures .range)
+    placing-less (test .before .loop .inv) (test .loop-test .taken) (c .hash-by .result) (c .hash-by .ensures .value)
+    (c .hash-by .ensures .range)
 
 returns : tie.Need-returns Inv-loop μ-loop
 returns c = placing-none (c .before .loop .inv) (c .loop-test .left)
@@ -38,7 +38,7 @@ undo-spec =
     (λ c. search needs)
     (λ c. search needs)
     (λ c. omega arith)
-    hash-below-by-requires
+    hash-by-requires
     (λ c. search needs)
     (λ c. search needs)
     (λ c. omega arith)

@@ -25,7 +25,7 @@ returns-2 c =
             c .wide3 .ensures .value,
             r .before .wide .ensures .value,
             s .wide2 .ensures .value,
-            s .before .hash-below .ensures .value,
+            s .before .hash .ensures .value,
             m,
           );
       range = omega arith;

@@ -8,7 +8,7 @@ use Rattle.table.proofs.words.block_of.Tie as tie
 returns : tie.Need-returns
 unfolding blockOf
 returns c =
-    record { value = c .wide .ensures .value ∙ c .before .hash-below .ensures .value; range = search needs }
+    record { value = c .wide .ensures .value ∙ c .before .hash .ensures .value; range = search needs }
 
 pub block-of-spec : {M : Type 1} → statement M
 block-of-spec =

@@ -14,7 +14,7 @@ returns c =
     record {
       value = rw (
         c .wide2 .ensures .value,
-        h .hash-below .ensures .value,
+        h .hash .ensures .value,
         q .block-multiplier .ensures,
         q .before .wide .ensures .value,
         q .before .before .block-end .ensures,

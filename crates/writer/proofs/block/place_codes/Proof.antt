@@ -27,17 +27,17 @@ loop-holds c =
     let zeros = start .pre .1 .0 .1 ∙ ap (λ (n : ℕ). replicate n 0) (sym (start .pre .1 .0 .0)) in
     (placed-start _ _ _ zeros, ((λ j l m. absurd (omega arith)), (refl, refl)))
 
-hash-below-by-requires : tie.Need-hash-below-by-requires Inv-loop μ-loop
-hash-below-by-requires c κs = let start = c .before .before .before .before .before .before in (start .pre .0 .0, start .pre .0 .1 .below _ (omega arith))
+hash-by-requires : tie.Need-hash-by-requires Inv-loop μ-loop
+hash-by-requires c κs = let start = c .before .before .before .before .before .before in (start .pre .0 .0, start .pre .0 .1 .below _ (omega arith))
 
 within : (c : tie.After-wide Inv-loop μ-loop) → c .wide .result < c .before .before .before .before .before .before .before .before .args .h .places
-within c = omega (arith, c .wide .ensures .value, c .before .hash-below-by .ensures .range)
+within c = omega (arith, c .wide .ensures .value, c .before .hash-by .ensures .range)
 
 loop-again : tie.Need-loop-again Inv-loop μ-loop
 loop-again c =
     let test = c .before .before .before in
     let h = test .before .loop .inv in
-    let own = c .before .hash-below-by .ensures .value in (
+    let own = c .before .hash-by .ensures .value in (
       placed-more (h .0) refl (test .loop-test .taken) (c .wide .result) (c .wide .ensures .value ∙ own) (within c),
       (noted-more _ (test .before .loop .places) (h .1 .0) _ own, (simp length-set (h .1 .1 .0), simp length-set (h .1 .1 .1))),
     )
@@ -61,7 +61,7 @@ place-codes-spec =
     (λ c. omega arith)
     (λ c. search needs)
     (λ c. omega arith)
-    hash-below-by-requires
+    hash-by-requires
     (λ c κs. search needs)
     (λ c. search needs)
     (λ c. omega (arith, within c, long (c .before .before .before .before .before .before .before .before)))

@@ -47,11 +47,11 @@ module _ (c : tie.After-wide2) where
   unfolding hashOf
   first =
       let x = c .before .before in
-      (x .wide .ensures .value ∙ ap (λ (r : ℕ). r % 4) (x .before .residue-below .ensures .value), omega (arith, x .wide .ensures .value))
+      (x .wide .ensures .value ∙ ap (λ (r : ℕ). r % 4) (x .before .residue .ensures .value), omega (arith, x .wide .ensures .value))
 
   second : (c .wide2 .result ≡ hashOf (begin .args .p) (found .two-multiplier .result) 4 (at begin (begin .args .b .start + 1))) × (c .wide2 .result < 4)
   unfolding hashOf
-  second = (c .wide2 .ensures .value ∙ ap (λ (r : ℕ). r % 4) (c .before .residue-below2 .ensures .value), omega (arith, c .wide2 .ensures .value))
+  second = (c .wide2 .ensures .value ∙ ap (λ (r : ℕ). r % 4) (c .before .residue2 .ensures .value), omega (arith, c .wide2 .ensures .value))
 
 place-two-requires : tie.Need-place-two-requires
 place-two-requires c κs =

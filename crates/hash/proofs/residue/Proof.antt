@@ -1,12 +1,12 @@
--- `hash::residue_below` meets its contract: numbers below 65,537 have a product of at most 2 ^ 32.
+-- `hash::residue` meets its contract: numbers below 65,537 have a product of at most 2 ^ 32.
 use Prim.Native.Nat.{_<_, _≤_}
 use mathlib.Core.Path.{_≡_}
 use native.Mathlib.Nat.{mod-lt}
 use native.Mathlib.Omega.{arith}
 use borrow.Author.Needs.{needs}
 use Rattle.hash.proofs.Words.{product-le, mod-word}
-use Rattle.hash.proofs.residue_below.Statement.{statement}
-use Rattle.hash.proofs.residue_below.Tie as tie
+use Rattle.hash.proofs.residue.Statement.{statement}
+use Rattle.hash.proofs.residue.Tie as tie
 
 by-halves-requires : tie.Need-by-halves-requires
 by-halves-requires c κs =
@@ -33,6 +33,6 @@ returns-2 c =
     let positive : 0 < c .before .before .args .p = omega arith in
     rw (c .before .product .ensures) (search (needs, mod-lt))
 
-pub residue-below-spec : {M : Type 1} → statement M
-residue-below-spec =
+pub residue-spec : {M : Type 1} → statement M
+residue-spec =
     tie.close (tie.spec (λ c κs. search needs) by-halves-requires returns rem-result cast-result returns-2)
