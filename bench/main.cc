@@ -54,6 +54,8 @@ const char *const kind_names[] = {"random", "arithmetic progressions", "multiple
 // what is timed by the size of the table
 const size_t table_sizes[] = {1, 2, 4, 8, 12, 16, 24, 31, 32, 33, 48, 64, 128, 256, 257, 300, 512, 1000, 1500, 2048};
 enum { TABLE_SIZES = 20 };
+// in so many processes: where the system puts one changes short calls more than its rounds differ
+enum { PROCESSES = 7 };
 enum Sized { SIZED_BUILD, SIZED_CHECK, SIZED_PAIRS, SIZED_INSERT_NEW, SIZED_INSERT_PRESENT, SIZED_REMOVE, SIZED };
 const char *const sized_names[] = {"Build", "Check", "Read back", "Put in, a new code", "Put in, a present code", "Take out"};
 
@@ -128,13 +130,25 @@ std::vector<size_t> order(size_t count, Random &r) {
     return o;
 }
 
-// Functions by name do the same work: adds the time of each to what it spent.
+// Does the work from another place of the stack. The system picks a place for each run, in steps of 16 bytes, and calls of tens of ns differ by it by up to a
+// quarter: so a run has many.
+template <class Work> __attribute__((noinline)) void from_place(size_t place, Work work) {
+    volatile char *above = (volatile char *)__builtin_alloca(16 * place + 1);
+    *above = 0;
+    work();
+}
+size_t place(Random &r) { return r.below(4096 / 16); }
+
+// Functions by name do the same work, from one place of the stack: adds the time of each to what it spent.
 template <class Function, size_t count, class Work, class Right>
 void in_turn(const Function (&functions)[count], Random &r, std::vector<double> &spent, const char *what, Work work, Right right) {
+    const size_t here = place(r);
     for (size_t f : order(count, r)) {
-        double t = now();
-        work(functions[f]);
-        spent[f] += now() - t;
+        from_place(here, [&] {
+            double t = now();
+            work(functions[f]);
+            spent[f] += now() - t;
+        });
         if (!right(functions[f])) wrong(functions[f].name, what);
     }
 }
@@ -232,15 +246,19 @@ void lookups(const std::vector<structure> &all, int size, bool timed, Results &r
             std::vector<double> spent(all.size());
             for (int part = 0; part < PARTS; part++) {
                 Asked a = asked(t.list, t.schedule_of, (Operation)o, PARTS * round + part);
+                const size_t here = place(r);
                 for (size_t s : order(all.size(), r)) {
                     if (!has(all[s], t.n)) continue;
                     if (!timed) {
                         all[s].answers(t.tables[s], a.codes.data(), QUERIES_OF_PART, out.data());
                         if (out != a.answers) wrong(all[s].name, operation_names[o]);
                     }
-                    double start = now();
-                    uint64_t got = run(all[s], t.tables[s], a, (Operation)o);
-                    spent[s] += now() - start;
+                    uint64_t got = 0;
+                    from_place(here, [&] {
+                        double start = now();
+                        got = run(all[s], t.tables[s], a, (Operation)o);
+                        spent[s] += now() - start;
+                    });
                     if (got != expected(a, (Operation)o)) wrong(all[s].name, operation_names[o]);
                 }
             }
@@ -289,32 +307,33 @@ void builds_of(const std::vector<structure> &all, size_t count, Kind kind, int s
         Lists ls = lists_of(kind, n, codes, round);
         std::vector<double> build(count), check(count), pairs(count);
         for (size_t from = 0; from < ls.lists.size(); from += at_once) {
-            size_t here = std::min(at_once, ls.lists.size() - from);
+            size_t here = std::min(at_once, ls.lists.size() - from), stack = place(r);
             for (size_t s : order(count, r)) {
                 const structure &it = all[s];
                 if (!builds(it)) continue;
                 for (size_t u = 0; u < here; u++) touch(ls.lists[from + u], lent[u]);
-                double t0 = now();
-                for (size_t u = 0; u < here; u++) {
-                    const List &l = ls.lists[from + u];
-                    tables[u] = it.build(l.codes.data(), l.schedules.data(), n, lent[u].data());
-                }
-                double t1 = now();
                 size_t got = 0, gone = 0, bad = 0;
-                for (size_t u = 0; u < here; u++) {
-                    if (!tables[u]) gone++;
-                    else got += it.pairs(tables[u], out_codes.data(), out_schedules.data());
-                    const List &l = ls.sorted[from + u];
-                    if (!timed && tables[u] && (out_codes != l.codes || out_schedules != l.schedules)) wrong(it.name, "pairs");
-                }
-                double t2 = now();
-                if (it.check)
-                    for (size_t u = 0; u < here; u++) bad |= it.check(tables[u]);
-                double t3 = now();
+                from_place(stack, [&] {
+                    double t0 = now();
+                    for (size_t u = 0; u < here; u++) {
+                        const List &l = ls.lists[from + u];
+                        tables[u] = it.build(l.codes.data(), l.schedules.data(), n, lent[u].data());
+                    }
+                    double t1 = now();
+                    for (size_t u = 0; u < here; u++) {
+                        if (!tables[u]) gone++;
+                        else got += it.pairs(tables[u], out_codes.data(), out_schedules.data());
+                        const List &l = ls.sorted[from + u];
+                        if (!timed && tables[u] && (out_codes != l.codes || out_schedules != l.schedules)) wrong(it.name, "pairs");
+                    }
+                    double t2 = now();
+                    if (it.check)
+                        for (size_t u = 0; u < here; u++) bad |= it.check(tables[u]);
+                    build[s] += t1 - t0, pairs[s] += t2 - t1, check[s] += now() - t2;
+                });
                 if (got != (here - gone) * n || bad) wrong(it.name, "check or read back");
                 for (size_t u = 0; u < here; u++)
                     if (tables[u]) it.drop(tables[u]);
-                build[s] += t1 - t0, pairs[s] += t2 - t1, check[s] += t3 - t2;
                 if (timed) results.failed[s] += gone;
             }
         }
@@ -657,7 +676,7 @@ string report(const std::vector<structure> &all, const Results &results, const s
             s += " |\n";
         }
     };
-    s += "\n## By the size of the table\n\nOf random lists, in ns a code: of the new table where a new code is put in, of the old one where a code is taken out.\n";
+    s += "\n## By the size of the table\n\nOf random lists, in ns a code: of the new table where a new code is put in, of the old one where a code is taken out. The rounds of " + grouped(PROCESSES) + " processes.\n";
     for (int o = 0; o < SIZED; o++) table(string("\n### ") + sized_names[o] + "\n\n| codes", functions, table_sizes, results.sized[o]);
     s += "\n## Build, by the shape of the list\n\n| list | codes";
     for (size_t i = 0; i < FUNCTIONS; i++) s += string(" | ") + all[i].name;
@@ -695,24 +714,60 @@ string report(const std::vector<structure> &all, const Results &results, const s
     return s + "\n";
 }
 
+// one processor, the last that is allowed
+void pin() {
+    cpu_set_t cpus;
+    if (sched_getaffinity(0, sizeof cpus, &cpus) != 0) return;
+    int last = CPU_SETSIZE - 1;
+    while (last > 0 && !CPU_ISSET(last, &cpus)) last--;
+    CPU_ZERO(&cpus);
+    CPU_SET(last, &cpus);
+    sched_setaffinity(0, sizeof cpus, &cpus);
+}
+
+// The rounds of the tables by size, as one process hands them to another.
+template <class Each> void each_sized(Results &results, Each each) {
+    for (auto &o : results.sized)
+        for (auto &size : o) {
+            size.resize(FUNCTIONS);
+            for (Series &f : size) each(f);
+        }
+}
+
+void print_sized() {
+    Results results;
+    each_sized(results, [](Series &) {});
+    for (int row = 0; row < TABLE_SIZES; row++) of_size(row, results);
+    each_sized(results, [](Series &f) {
+        for (double ns : f) std::printf("%.4f\n", ns);
+    });
+}
+
+// Adds the rounds of another process.
+void read_sized(const string &program, Results &results) {
+    FILE *in = popen(("'" + program + "' sized").c_str(), "r");
+    if (!in) wrong(program.c_str(), "process");
+    each_sized(results, [&](Series &f) {
+        for (int round = 0; round < ROUNDS; round++) {
+            double ns;
+            if (std::fscanf(in, "%lf", &ns) != 1) wrong(program.c_str(), "rounds");
+            f.push_back(ns);
+        }
+    });
+    if (pclose(in) != 0) wrong(program.c_str(), "process");
+}
+
 } // namespace
 
 int main(int argc, char **argv) {
     std::vector<structure> all = {glass_structure(functions[0].name), yard_structure(functions[1].name), yardgcc_structure(functions[2].name)};
     for (const structure &s : peers()) all.push_back(s);
+    pin();
     if (argc == 2 && !std::strcmp(argv[1], "bytes")) return print_bytes(all), 0;
+    if (argc == 2 && !std::strcmp(argv[1], "sized")) return print_sized(), 0;
     if (argc < 4) return 2;
     double load = 0;
     getloadavg(&load, 1);
-    // one processor, the last that is allowed
-    cpu_set_t cpus;
-    if (sched_getaffinity(0, sizeof cpus, &cpus) == 0) {
-        int last = CPU_SETSIZE - 1;
-        while (last > 0 && !CPU_ISSET(last, &cpus)) last--;
-        CPU_ZERO(&cpus);
-        CPU_SET(last, &cpus);
-        sched_setaffinity(0, sizeof cpus, &cpus);
-    }
 
     Results results;
     std::ifstream bytes(argv[2]);
@@ -725,8 +780,7 @@ int main(int argc, char **argv) {
     }
     if (!bytes) wrong(argv[2], "bytes");
     for (auto &o : results.two) o.resize(all.size());
-    for (auto &o : results.sized)
-        for (auto &size : o) size.resize(FUNCTIONS);
+    each_sized(results, [](Series &) {});
     for (int kind = 0; kind < TEXT_KINDS; kind++) results.read[kind].resize(TEXT_FUNCTIONS), results.written[kind].resize(TEXT_FUNCTIONS);
     for (auto &o : results.generated) o.resize(GENERATORS);
     for (auto &o : results.words) o.resize(WORD_MAKERS);
@@ -759,7 +813,8 @@ int main(int argc, char **argv) {
     }
     builds_of_two(all, FUNCTIONS, results);
     for (int row = 0; row < TABLE_SIZES; row++) of_size(row, results);
-    step("tables of every size timed");
+    for (int process = 1; process < PROCESSES; process++) read_sized(argv[0], results);
+    step("tables by size timed");
     string s = report(all, results, compared, stacks, load, argc, argv);
     std::ofstream(argv[1]) << s;
     std::cout << s;

@@ -1,11 +1,11 @@
 -- The changed list of a table, and how it is listed. The pairs of the cells stand in another order than by rising code, and so do the changed ones.
-use Prim.Native.Nat.{ℕ, zero, suc, _+_, _*_, _-_, _≤_}
+use Prim.Native.Nat.{ℕ, zero, suc, _+_, _*_, _-_, _<_, _≤_}
 use native.Mathlib.Omega.{arith}
 use mathlib.Core.List.{List, [], _∷_, _++_, map, map-append, append-assoc, List·Permᴰ, Permᴰ·append-left}
 use mathlib.Core.Path.{_≡_, refl, sym, ap, _∙_}
 use borrow.Rule.Slice.PartMut.{midOf, putMid, mid-len, same-len-mid}
-use lib.ListN.{length, set, take, drop, length-map, length-set, length-append, length-drop}
-use lib.Seq.{take-at, length-take-le}
+use lib.ListN.{length, getD, set, take, drop, length-map, length-set, length-append, length-drop, length-take, drop-of-length-le}
+use lib.Seq.{take-at, getD-take, getD-drop, length-take-le}
 use Rattle.hash.proofs.Orders.{perm-length}
 use Rattle.table.specs.Pairs.{Pair, codesOf}
 use Rattle.table.specs.Words.{codeCount, cellCount, total}
@@ -13,9 +13,9 @@ use Rattle.audit.specs.Check.{allCodes}
 use Rattle.reader.specs.Pairs.{allSchedules, stored, pairsIn}
 use Rattle.reader.proofs.Rising.{rising-perm}
 use Rattle.search.specs.code.Searchable.{Searchable}
-use Rattle.writer.specs.code.Valid.{ValidBuilt}
+use Rattle.writer.specs.code.Valid.{ValidBuilt, OneBuilt}
 use Rattle.editor.specs.Edit.{without}
-use Rattle.editor.specs.code.Changes.{otherCount, others, changed, Gatherable, Gathered, Changing, Roomy, Listed, ChangedBuilt}
+use Rattle.editor.specs.code.Changes.{otherCount, others, changed, Gatherable, Gathered, FirstOther, Changing, Roomy, Listed, ChangedBuilt}
 use Rattle.editor.specs.declared.changes.Change.{Change}
 use Rattle.editor.proofs.Others.{without-perm}
 use Rattle.editor.proofs.Gathering.{others-count}
@@ -107,18 +107,57 @@ module _ (words : List ℕ) (n c : ℕ) (codes-are : n ≡ codeCount words) (cel
       ∙ sym (others-count code (allCodes words) (allSchedules words) (held-same whole))
       ∙ sym (perm-length (without-perm code (pairs-perm words)))
 
-  module _ {x : Change} (h : Changing words x) {codes schedules : List ℕ} (r : Roomy x codes schedules) where
-    others-long : x .others ≡ length (others (x .code) (allCodes words) (allSchedules words))
-    unfolding others
-    others-long = h .others-are ∙ perm-length (without-perm (x .code) (pairs-perm words))
+  others-long : {x : Change} → Changing words x → x .others ≡ length (others (x .code) (allCodes words) (allSchedules words))
+  unfolding others
+  others-long {x} h = h .others-are ∙ perm-length (without-perm (x .code) (pairs-perm words))
 
+  -- one pair is left: that of the first other cell
+  module _ {x : Change} (h : Changing words x) (none : x .added ≡ 0) (one : x .others ≡ 1) where
+    pub left-some : 0 < otherCount (x .code) cells
+    left-some = omega (arith, counted (x .code) (h .whole), h .others-are)
+
+    module _ {i : ℕ} (f : FirstOther (x .code) cells i) where
+      abbrev pub leftCode : ℕ
+      leftCode = getD words (start + i) 0
+
+      abbrev pub leftSchedule : ℕ
+      leftSchedule = getD words (start + c + i) 0
+
+      all : FirstOther (x .code) (allCodes words) i
+      all = rw cells-are-all at f
+
+      -- the word of cell i in the part that begins at a
+      read : (a : ℕ) → getD (take (cellCount words) (drop a words)) i 0 ≡ getD words (a + i) 0
+      read a = getD-take (cellCount words) (drop a words) i 0 (omega (arith, all .within, length-take (cellCount words) (drop (3 + 2 * codeCount words) words))) ∙ getD-drop a words i 0
+
+      code-read : getD (allCodes words) i 0 ≡ leftCode
+      code-read = rw codes-are (read (3 + 2 * codeCount words))
+
+      schedule-read : getD (allSchedules words) i 0 ≡ leftSchedule
+      schedule-read = rw (codes-are, cells-are) (read (3 + 2 * codeCount words + cellCount words))
+
+      only-left : others (x .code) (allCodes words) (allSchedules words) ≡ record { code = leftCode; schedule = leftSchedule } ∷ []
+      only-left =
+          let split = all .first (allSchedules words) (held-same (h .whole)) in
+          let rest : List Pair = others (x .code) (drop (suc i) (allCodes words)) (drop (suc i) (allSchedules words)) in
+          let gone : rest ≡ [] = drop-of-length-le rest {i = 0} (omega (arith, ap length split, others-long h)) in
+          rw (← code-read, ← schedule-read) (split ∙ ap (λ (t : List Pair). record { code = getD (allCodes words) i 0; schedule = getD (allSchedules words) i 0 } ∷ t) gone)
+
+      pub left-listed : Listed words x (leftCode ∷ []) (leftSchedule ∷ [])
+      unfolding changed others
+      left-listed =
+          let size : x .added + x .others ≡ 1 = omega arith in
+          let left = only-left in
+          rw (size, none, left) (record { codes-are = refl; schedules-are = refl })
+
+  module _ {x : Change} (h : Changing words x) {codes schedules : List ℕ} (r : Roomy x codes schedules) where
     pub gatherable : Gatherable (x .code) cells held (places x codes (x .code)) (places x schedules (x .schedule))
     gatherable =
         rw (cells-are-all, held-are-all)
         (record {
           same = held-same (h .whole);
-          codes-long = places-long x codes (x .code) (r .codes-long) ∙ others-long;
-          schedules-long = places-long x schedules (x .schedule) (omega (arith, r .codes-long, r .same)) ∙ others-long;
+          codes-long = places-long x codes (x .code) (r .codes-long) ∙ others-long h;
+          schedules-long = places-long x schedules (x .schedule) (omega (arith, r .codes-long, r .same)) ∙ others-long h;
         })
 
     module _ {part parts : List ℕ} (g : Gathered (others (x .code) cells held) part parts) where
@@ -137,11 +176,11 @@ module _ (words : List ℕ) (n c : ℕ) (codes-are : n ≡ codeCount words) (cel
           let new : Pair = record { code = x .code; schedule = x .schedule } in
           record {
             codes-are =
-                listed-column (λ (y : Pair). y .code) new _ (x .added) (x .others) codes _ _ (h .at-most-one) (r .some) others-long (g .codes-are);
+                listed-column (λ (y : Pair). y .code) new _ (x .added) (x .others) codes _ _ (h .at-most-one) (r .some) (others-long h) (g .codes-are);
             schedules-are =
                 listed-column (λ (y : Pair). y .schedule) new _ (x .added) (x .others) schedules _ _ (h .at-most-one)
                 (omega (arith, r .some, r .same))
-                others-long
+                (others-long h)
                 (g .schedules-are);
           }
 
@@ -162,3 +201,31 @@ module _
         → ValidBuilt p (take (x .added + x .others) codes) (take (x .added + x .others) schedules) second total second′
         → ChangedBuilt p words x second total second′
     listed-built b = built-order (changed-perm words x) s (rw (l .codes-are, l .schedules-are) at b)
+
+-- ---- the one pair that is left
+
+module _
+    (words : List ℕ) (n c : ℕ) (codes-are : n ≡ codeCount words) (cells-are : c ≡ cellCount words) {x : Change} (h : Changing words x) (none : x .added ≡ 0)
+    (one : x .others ≡ 1) {i : ℕ} (f : FirstOther (x .code) (cells words n c codes-are cells-are) i)
+  where
+    pub left-built :
+        {p : ℕ} {second second′ : List ℕ} {total : ℕ} → Searchable p (codesOf (changed x (pairsIn words)))
+        → OneBuilt (getD words (3 + 2 * n + i) 0) (getD words (3 + 2 * n + c + i) 0) second total second′ → ChangedBuilt p words x second total second′
+    left-built {p} s built =
+        let l = left-listed words n c codes-are cells-are h none one f in
+        let size : x .added + x .others ≡ 1 = omega arith in
+        listed-built words x _ _ s l (rw size (built p (rw size at (listed-searchable words x _ _ s l))))
+
+-- ---- a new pair and no others
+
+only-new : {words : List ℕ} {x : Change} → Changing words x → x .added ≡ 1 → x .others ≡ 0 → changed x (pairsIn words) ≡ record { code = x .code; schedule = x .schedule } ∷ []
+unfolding changed
+only-new {words} {x} h new none =
+    let left : List Pair = without (x .code) (pairsIn words) in
+    let gone : left ≡ [] = drop-of-length-le left {i = 0} (omega (arith, h .others-are)) in
+    rw (new, gone)
+
+pub new-built :
+    {p : ℕ} {words : List ℕ} {x : Change} {second second′ : List ℕ} {total : ℕ} → Searchable p (codesOf (changed x (pairsIn words))) → Changing words x
+    → x .added ≡ 1 → x .others ≡ 0 → OneBuilt (x .code) (x .schedule) second total second′ → ChangedBuilt p words x second total second′
+new-built {p} s h new none built = rw (only-new h new none) (built p (rw (only-new h new none) at s))

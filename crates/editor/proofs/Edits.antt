@@ -5,13 +5,14 @@ use native.Mathlib.Decide.{decLt}
 use native.Mathlib.Omega.{arith}
 use mathlib.Core.Bool.{true, not, _&&_, or-true}
 use mathlib.Core.List.{List, [], _∷_, List·Memᴰ, List·Memᴰ·cases-cons, List·Memᴰ·not-nil, Memᴰ·map}
-use mathlib.Core.Logic.{⊎-elim}
+use mathlib.Core.Logic.{inl, inr, ⊎-elim}
 use mathlib.Core.Path.{_≡_, sym, ap, _∙_}
 use borrow.Author.Tests.{lt-ltb, le-ltb, eq-eqb, ne-eqb, ltb-true}
 use lib.Dec.{eqb, ltb}
 use lib.ListN.{length}
 use Rattle.hash.specs.Theorems.{Prime}
-use Rattle.table.specs.Answers.{Answer, given, refused}
+use Rattle.hash.proofs.Indicators.{true-or-false}
+use Rattle.table.specs.Answers.{Answer, given, refused, intoRoom}
 use Rattle.table.specs.Limits.{room}
 use Rattle.table.specs.Lookup.{lookupOf}
 use Rattle.table.specs.Pairs.{Pair, codesOf, schedulesOf, among}
@@ -36,18 +37,19 @@ pub refusal :
 refusal number value e = record { answers = sym e; second-at-exit = rw e }
 
 -- 54: the test of 6, by another number
-module _ {p : ℕ} (xs : List Pair) {second second′ : List ℕ} {total : ℕ} (b : ValidBuilt p (codesOf xs) (schedulesOf xs) second total second′) where
-  pub rebuilt-short : length second < total → Rebuilding p xs second (refused 54 total) second′
-  unfolding rebuilt
-  rebuilt-short l =
-      let short = lt-ltb (length second) (wordsNeeded p (codesOf xs)) (omega (arith, b .totals)) in
-      record { answers = rw (short, b .totals); second-at-exit = rw short (rw short at (b .words-at-exit)) }
-
-  pub rebuilt-whole : total ≤ length second → Rebuilding p xs second (given (total ∷ [])) second′
-  unfolding rebuilt
-  rebuilt-whole l =
-      let enough = le-ltb (length second) (wordsNeeded p (codesOf xs)) (omega (arith, b .totals)) in
-      record { answers = rw (enough, b .totals); second-at-exit = rw enough (rw enough at (b .words-at-exit)) }
+pub rebuilding :
+    {p : ℕ} (xs : List Pair) {second second′ : List ℕ} {total : ℕ} {answer : Answer} → ValidBuilt p (codesOf xs) (schedulesOf xs) second total second′
+    → answer ≡ intoRoom 54 total (length second) → Rebuilding p xs second answer second′
+unfolding rebuilt
+rebuilding {p} xs {second} b e =
+    record {
+      answers = rw (← b .totals) e;
+      second-at-exit =
+          elim (true-or-false (ltb (length second) (wordsNeeded p (codesOf xs)))) [
+            | inl short ↦ rw short (rw short at (b .words-at-exit))
+            | inr enough ↦ rw enough (rw enough at (b .words-at-exit))
+          ];
+    }
 
 -- ---- whether the code is there
 

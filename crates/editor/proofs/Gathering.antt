@@ -10,10 +10,11 @@ use mathlib.Core.Path.{_≡_, refl, sym, ap, _∙_}
 use borrow.Author.Tests.{eq-eqb, ne-eqb}
 use lib.ListN.{length, getD, set, take, drop, length-set, drop-of-length-le}
 use lib.Seq.{take-all, take-suc-set, take-set-le, drop-cons}
+use Rattle.hash.proofs.Indicators.{indicator}
 use Rattle.table.specs.Pairs.{Pair, paired, pairsWhere}
 use Rattle.reader.specs.Pairs.{stored}
 use Rattle.editor.specs.Edit.{without}
-use Rattle.editor.specs.code.Changes.{isOther, otherCount, others, Gatherable, Gathered}
+use Rattle.editor.specs.code.Changes.{isOther, otherCount, others, Gatherable, Gathered, FirstOther}
 
 -- ---- one list, of a number g of each pair: k of them stand in it, and these pairs are left
 
@@ -51,6 +52,14 @@ module _ {g : Pair → ℕ} {all : List Pair} {k : ℕ} {list : List ℕ} where
 one-at-most : (b : Bool) → cond b 1 0 ≤ 1
 one-at-most true = omega arith
 one-at-most false = omega arith
+
+none-counted : (b : Bool) → indicator b ≡ 0 → b ≡ false
+none-counted true e = absurd (omega arith)
+none-counted false e = refl
+
+one-counted : (b : Bool) → (indicator b ≡ 0 → ⊥) → b ≡ true
+one-counted true ne = refl
+one-counted false ne = absurd (ne refl)
 
 module _ (code : ℕ) where
   -- a cell and those after it
@@ -93,6 +102,47 @@ module _ (code : ℕ) where
       chosen true = omega arith
       chosen false = omega arith
 
+  -- ---- the first
+
+  -- the cells from i on
+  others-from :
+      (cells held : List ℕ) (i : ℕ) → length held ≡ length cells → i < length cells
+      → others code (drop i cells) (drop i held)
+      ≡ cond (isOther code (getD cells i 0))
+      (record { code = getD cells i 0; schedule = getD held i 0 } ∷ others code (drop (suc i) cells) (drop (suc i) held))
+      (others code (drop (suc i) cells) (drop (suc i) held))
+  others-from cells held i same l =
+      rw (drop-cons cells i 0 l, drop-cons held i 0 (omega (arith, same)))
+      (others-cons (getD cells i 0) (getD held i 0) (drop (suc i) cells) (drop (suc i) held))
+
+  -- no cell before i counts
+  pub record Passed (cells : List ℕ) (i : ℕ) : Type 0 where
+    pub all-left : otherCount code (drop i cells) ≡ otherCount code cells
+    pub pairs-left : (held : List ℕ) → length held ≡ length cells → others code cells held ≡ others code (drop i cells) (drop i held)
+
+  pub passed-none : (cells : List ℕ) → Passed cells 0
+  passed-none cells = record { all-left = refl; pairs-left = λ held same. refl }
+
+  module _ {cells : List ℕ} {i : ℕ} (h : Passed cells i) (some : 0 < otherCount code cells) where
+    pub passed-within : i < length cells
+    passed-within = elim (decLt i (length cells)) [ yes l ↦ l | no ge ↦ absurd (omega (arith, h .all-left, count-end cells i (omega arith))) ]
+
+    pub passed-next : indicator (isOther code (getD cells i 0)) ≡ 0 → Passed cells (i + 1)
+    passed-next none =
+        let not-other : isOther code (getD cells i 0) ≡ false = none-counted (isOther code (getD cells i 0)) none in
+        record {
+          all-left = omega (arith, h .all-left, rw not-other at (count-from cells i passed-within));
+          pairs-left = λ held same. rw (add-one i) (h .pairs-left held same ∙ rw not-other at (others-from cells held i same passed-within));
+        }
+
+    pub passed-first : (indicator (isOther code (getD cells i 0)) ≡ 0 → ⊥) → FirstOther code cells i
+    passed-first one =
+        let other : isOther code (getD cells i 0) ≡ true = one-counted (isOther code (getD cells i 0)) one in
+        record {
+          within = passed-within;
+          first = λ held same. h .pairs-left held same ∙ rw other at (others-from cells held i same passed-within);
+        }
+
   -- ---- the pairs
 
   pub record Gathering (cells held codes schedules : List ℕ) (i k : ℕ) : Type 0 where
@@ -128,11 +178,7 @@ module _ (code : ℕ) where
         → Gathering cells held (set codes k (getD cells i 0)) (set schedules k (getD held i 0)) (i + 1) (k + cond (isOther code (getD cells i 0)) 1 0)
     gathering-next l =
         let m = gathering-more l in
-        let step : others code (drop i cells) (drop i held)
-        ≡ cond (isOther code (getD cells i 0))
-        (record { code = getD cells i 0; schedule = getD held i 0 } ∷ others code (drop (suc i) cells) (drop (suc i) held))
-        (others code (drop (suc i) cells) (drop (suc i) held))
-        = rw (drop-cons cells i 0 m, drop-cons held i 0 (omega (arith, g .same))) (others-cons (getD cells i 0) (getD held i 0) (drop (suc i) cells) (drop (suc i) held)) in
+        let step = others-from cells held i (g .same) m in
         record {
           within = omega arith;
           same = g .same;

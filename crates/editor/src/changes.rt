@@ -8,12 +8,13 @@ ghost use Rattle.table.specs.Pairs.{codesOf};
 ghost use Rattle.table.specs.Words.{total};
 ghost use Rattle.reader.specs.Pairs.{pairsIn};
 ghost use Rattle.editor.specs.Edit.{without};
-ghost use Rattle.editor.specs.code.Changes.{isOther, otherCount, others, changed, Gatherable, Gathered, Changing, Roomy, Listed, ChangedBuilt};
+ghost use Rattle.editor.specs.code.Changes.{isOther, otherCount, others, changed, Gatherable, Gathered, Changing, FirstOther, Roomy, Listed, ChangedBuilt, LeftBuilt};
 use table::limits::FEW;
 use table::limits::ROOM;
 use table::numbers::one;
 use table::numbers::wide;
 use writer::valid::write_empty;
+use writer::valid::write_one;
 use writer::valid::write_valid;
 
 // How the list is changed: the code is left out, and where `added` is 1, not 0, put in with a schedule.
@@ -115,17 +116,13 @@ fn write_listed(
     write_valid(p, &codes[..m], &schedules[..m], second)
 }
 
-// The same with room of its own. The empty list needs none: no room is cleared for a table of three words.
-pub(crate) fn write_changed(p: u32, words: &[u32], change: Change, second: &mut [u32]) -> u32
+// The same with room of its own.
+fn write_changed(p: u32, words: &[u32], change: Change, second: &mut [u32]) -> u32
     requires { ⌜ Searchable p (codesOf (changed change (pairsIn (now words)))) ⌝ }
     requires { ⌜ Changing (now words) change ⌝ }
     ensures { λ r. ⌜ ChangedBuilt p (now (words .entry)) change (now (second .entry)) r (now (second .exit)) ⌝ }
 {
-    let m = change.added + change.others;
-    if m == 0 {
-        return write_empty(second);
-    }
-    if m <= FEW {
+    if change.added + change.others <= FEW {
         let mut codes = [0u32; FEW];
         let mut schedules = [0u32; FEW];
         return write_listed(p, words, change, &mut codes, &mut schedules, second);
@@ -133,4 +130,54 @@ pub(crate) fn write_changed(p: u32, words: &[u32], change: Change, second: &mut 
     let mut codes = [0u32; ROOM];
     let mut schedules = [0u32; ROOM];
     write_listed(p, words, change, &mut codes, &mut schedules, second)
+}
+
+// Writes the table of the pairs with the new one. Where there are no others it needs no room, and none is cleared.
+pub(crate) fn write_with_new(p: u32, words: &[u32], change: Change, second: &mut [u32]) -> u32
+    requires { ⌜ Searchable p (codesOf (changed change (pairsIn (now words)))) ⌝ }
+    requires { ⌜ Changing (now words) change × (change .added ≡ 1) ⌝ }
+    ensures { λ r. ⌜ ChangedBuilt p (now (words .entry)) change (now (second .entry)) r (now (second .exit)) ⌝ }
+{
+    if change.others == 0 {
+        return write_one(change.code, change.schedule, second);
+    }
+    write_changed(p, words, change, second)
+}
+
+// The first cell that holds a code other than this one: there is one.
+fn other_cell(cells: &[u32], code: u32) -> usize
+    requires { ⌜ 0 < otherCount code (now cells) ⌝ }
+    ensures { λ r. ⌜ FirstOther code (now (cells .entry)) r ⌝ }
+{
+    let mut i: usize = 0;
+    while other(cells[i], code) == 0 {
+        i += 1;
+    }
+    i
+}
+
+// Writes the table of the one pair that is left.
+fn write_left(words: &[u32], change: Change, second: &mut [u32]) -> u32
+    requires { ⌜ Changing (now words) change × ((change .added ≡ 0) × (change .others ≡ 1)) ⌝ }
+    ensures { λ r. ⌜ LeftBuilt (now (words .entry)) change (now (second .entry)) r (now (second .exit)) ⌝ }
+{
+    let start = 3 + 2 * wide(words[0]);
+    let middle = start + wide(words[1]);
+    let i = other_cell(&words[start..middle], change.code);
+    write_one(words[start + i], words[middle + i], second)
+}
+
+// Writes the table of the pairs that are left. None or one need no room, and none is cleared.
+pub(crate) fn write_without(p: u32, words: &[u32], change: Change, second: &mut [u32]) -> u32
+    requires { ⌜ Searchable p (codesOf (changed change (pairsIn (now words)))) ⌝ }
+    requires { ⌜ Changing (now words) change × (change .added ≡ 0) ⌝ }
+    ensures { λ r. ⌜ ChangedBuilt p (now (words .entry)) change (now (second .entry)) r (now (second .exit)) ⌝ }
+{
+    if change.others == 0 {
+        return write_empty(second);
+    }
+    if change.others == 1 {
+        return write_left(words, change, second);
+    }
+    write_changed(p, words, change, second)
 }

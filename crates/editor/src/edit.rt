@@ -1,18 +1,17 @@
 // Putting one code in and taking one out, into a second buffer (document 01, "Put in, take out"). The old table is read only.
 ghost use Prim.Native.Nat.{_≤_};
+ghost use mathlib.Core.Path.{_≡_};
 ghost use Rattle.hash.specs.Theorems.{Prime};
-ghost use Rattle.search.specs.code.Searchable.{Searchable};
+ghost use Rattle.table.specs.Answers.{intoRoom};
 ghost use Rattle.table.specs.Limits.{room, mostPairs};
-ghost use Rattle.table.specs.Pairs.{codesOf};
 ghost use Rattle.audit.specs.WellFormed.{WellFormed};
-ghost use Rattle.reader.specs.Pairs.{pairsIn};
 ghost use Rattle.editor.specs.Edit.{Inserted, Removed};
 ghost use Rattle.editor.specs.Edited.{editedOf};
-ghost use Rattle.editor.specs.code.Changes.{changed, Changing};
-ghost use Rattle.editor.specs.code.Editing.{InRange, Rebuilding, PutIn, TakenOut};
+ghost use Rattle.editor.specs.code.Editing.{InRange, PutIn, TakenOut};
 use crate::changes::Change;
 use crate::changes::count_others;
-use crate::changes::write_changed;
+use crate::changes::write_with_new;
+use crate::changes::write_without;
 use audit::check::Checked;
 use audit::check::check_for;
 use table::limits::MOST_PAIRS;
@@ -36,14 +35,10 @@ pub enum Edited {
     Refused(Checked),
 }
 
-// From 54 on: builds the changed list.
-fn rebuild(p: u32, words: &[u32], change: Change, second: &mut [u32]) -> Edited
-    requires { ⌜ Searchable p (codesOf (changed change (pairsIn (now words)))) ⌝ }
-    requires { ⌜ Changing (now words) change ⌝ }
-    ensures { λ r. ⌜ Rebuilding p (changed change (pairsIn (now (words .entry)))) (now (second .entry)) (editedOf r) (now (second .exit)) ⌝ }
+// What a build of the changed list answers: 54, or the new total.
+fn rebuilt(lent: usize, total: u32) -> Edited
+    ensures { λ r. ⌜ editedOf r ≡ intoRoom 54 total lent ⌝ }
 {
-    let lent = second.len();
-    let total = write_changed(p, words, change, second);
     if lent < wide(total) {
         return Edited::TooShort(total);
     }
@@ -68,7 +63,9 @@ fn put_in(p: u32, limit: u32, words: &[u32], code: u32, schedule: u32, second: &
         added: 1,
         others,
     };
-    rebuild(p, words, change, second)
+    let lent = second.len();
+    let total = write_with_new(p, words, change, second);
+    rebuilt(lent, total)
 }
 
 // From 55 on: a table whose codes are all others does not have the code.
@@ -88,7 +85,9 @@ fn take_out(p: u32, limit: u32, words: &[u32], code: u32, second: &mut [u32]) ->
         added: 0,
         others,
     };
-    rebuild(p, words, change, second)
+    let lent = second.len();
+    let total = write_without(p, words, change, second);
+    rebuilt(lent, total)
 }
 
 // Putting in for a prime p and a limit on the codes of a table.

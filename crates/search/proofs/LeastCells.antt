@@ -57,7 +57,7 @@ pub cells-start : {p : ℕ} {block : List ℕ} → Searchable p block → Trying
 cells-start {p} {block} codes = trying-start (cells-least (codes .prime) block (codes .valid))
 
 -- one cell is the place of every code, by any multiplier
-one-cell : (p q a : ℕ) → hashOf p q 1 a ≡ 0
+pub one-cell : (p q a : ℕ) → hashOf p q 1 a ≡ 0
 unfolding hashOf
 one-cell p q a = omega arith
 

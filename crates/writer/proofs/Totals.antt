@@ -5,15 +5,19 @@ use mathlib.Core.Path.{_≡_, refl, sym, ap, _∙_}
 use native.Mathlib.Omega.{arith}
 use borrow.Author.Tests.{lt-ltb, le-ltb}
 use lib.ListN.{length, getD, drop, set, drop-of-length-le}
-use Rattle.hash.specs.Hash.{sum, cells}
+use Rattle.hash.specs.Hash.{load, members, sum, cells}
+use Rattle.hash.proofs.LeastLaws.{least-unique}
 use Rattle.table.specs.Answers.{Answer, given, refused, filled, intoRoom}
-use Rattle.table.specs.TwoLevel.{tabulate, blocksMultiplier, frontWith, frontOf, tableWith, tableOf, cellsOf, wordsNeeded}
+use Rattle.table.specs.Words.{blockOf, cellIn, ownCell}
+use Rattle.table.specs.Pairs.{paired, valueWhere}
+use Rattle.table.specs.TwoLevel.{tabulate, blocksMultiplier, startOf, heldAt, frontWith, frontOf, tableWith, tableOf, cellsOf, wordsNeeded}
 use Rattle.table.proofs.Tabulate.{tabulate-at}
 use Rattle.table.proofs.Chosen.{few-cells}
 use Rattle.table.proofs.Contents.{needed-is, table-length}
 use Rattle.search.specs.code.Searchable.{Searchable}
 use Rattle.table.specs.Limits.{room}
 use Rattle.search.specs.code.Blocks.{LeastBlocks, Blocked}
+use Rattle.search.proofs.LeastCells.{one-cell, cells-one}
 use Rattle.writer.specs.code.Grouping.{BlockOfEach, Loads}
 use Rattle.writer.specs.code.Writing.{Writable}
 use Rattle.writer.specs.code.Valid.{ValidBuilt, EmptyBuilt}
@@ -87,6 +91,46 @@ pub empty-built :
     → ValidBuilt p codes schedules words total words′
 empty-built {p} {codes} {schedules} none same built =
     rw (drop-of-length-le codes {i = 0} (omega arith), drop-of-length-le schedules {i = 0} (omega arith)) (built p)
+
+-- ---- one pair
+
+module _ {p a : ℕ} (s : Searchable p (a ∷ [])) where
+  one-cells : cells p 1 (a ∷ []) ≡ 1
+  unfolding cells sum load
+  one-cells = rw (one-cell p 1 a)
+
+  pub one-least : LeastBlocks p (a ∷ []) 1 1
+  unfolding blocksMultiplier
+  one-least =
+      record {
+        multiplier = sym (least-unique _ p 1 (record { from-one = omega arith; below = omega (arith, s .prime .two-le); passes = rw (one-cells); least = λ j f l. absurd (omega arith) }));
+        cells = sym (one-cells);
+      }
+
+  one-front : frontWith p 1 (a ∷ []) ≡ 1 ∷ 1 ∷ 1 ∷ 0 ∷ 1 ∷ []
+  unfolding frontWith tabulate startOf sum members
+  one-front = rw (one-cell p 1 a, one-cells, cells-one s .0)
+
+  one-own : ownCell p (1 ∷ 1 ∷ 1 ∷ 0 ∷ 1 ∷ []) a ≡ 0
+  unfolding ownCell blockOf cellIn
+  one-own = rw (one-cell p 1 a) (omega (arith, one-cell p 1 a))
+
+  one-table : (v : ℕ) → 1 ∷ 1 ∷ 1 ∷ 0 ∷ 1 ∷ a ∷ v ∷ [] ≡ tableWith p (frontWith p 1 (a ∷ [])) 1 (a ∷ []) (v ∷ [])
+  unfolding tableWith tabulate heldAt paired valueWhere
+  one-table v = rw (one-front, one-own)
+
+  pub one-written :
+      (v : ℕ) (words : List ℕ) → 7 ≤ length words
+      → ValidBuilt p (a ∷ []) (v ∷ []) words 7 (set (set (set (set (set (set (set words 0 1) 1 1) 2 1) 3 0) 4 1) 5 a) 6 v)
+  one-written v [] l = absurd (omega arith)
+  one-written v (x₀ ∷ []) l = absurd (omega arith)
+  one-written v (x₀ ∷ x₁ ∷ []) l = absurd (omega arith)
+  one-written v (x₀ ∷ x₁ ∷ x₂ ∷ []) l = absurd (omega arith)
+  one-written v (x₀ ∷ x₁ ∷ x₂ ∷ x₃ ∷ []) l = absurd (omega arith)
+  one-written v (x₀ ∷ x₁ ∷ x₂ ∷ x₃ ∷ x₄ ∷ []) l = absurd (omega arith)
+  one-written v (x₀ ∷ x₁ ∷ x₂ ∷ x₃ ∷ x₄ ∷ x₅ ∷ []) l = absurd (omega arith)
+  one-written v (x₀ ∷ x₁ ∷ x₂ ∷ x₃ ∷ x₄ ∷ x₅ ∷ x₆ ∷ words) l =
+      valid-written one-least (v ∷ []) (x₀ ∷ x₁ ∷ x₂ ∷ x₃ ∷ x₄ ∷ x₅ ∷ x₆ ∷ words) (1 ∷ 1 ∷ 1 ∷ 0 ∷ 1 ∷ a ∷ v ∷ []) l (one-table v)
 
 -- ---- what the search for k leaves
 

@@ -3,7 +3,7 @@ ghost use Prim.Native.Nat.{_<_};
 ghost use mathlib.Core.Path.{_≡_};
 ghost use lib.ListN.{length};
 ghost use Rattle.search.specs.code.Searchable.{Searchable};
-ghost use Rattle.writer.specs.code.Valid.{ValidBuilt, EmptyBuilt};
+ghost use Rattle.writer.specs.code.Valid.{ValidBuilt, EmptyBuilt, OneBuilt};
 use crate::write::Shape;
 use crate::write::write_table;
 use search::blocks::blocks_multiplier;
@@ -22,6 +22,23 @@ pub fn write_empty(words: &mut [u32]) -> u32
     words[1] = 0;
     words[2] = 1;
     3
+}
+
+// Writes the table of one pair, the same for any prime: every multiplier keeps one code in one cell. Gives 7; where fewer words are lent none is written.
+pub fn write_one(code: u32, schedule: u32, words: &mut [u32]) -> u32
+    ensures { λ r. ⌜ OneBuilt code schedule (now (words .entry)) r (now (words .exit)) ⌝ }
+{
+    if words.len() < 7 {
+        return 7;
+    }
+    words[0] = 1;
+    words[1] = 1;
+    words[2] = 1;
+    words[3] = 0;
+    words[4] = 1;
+    words[5] = code;
+    words[6] = schedule;
+    7
 }
 
 // Writes the table of a list with a code, which 1 to 5 do not refuse, with a place for each code's block and for each block's load. Gives the total, which

@@ -1,14 +1,15 @@
 -- The list that an edit makes of an old table's pairs: what the code that gathers and writes it relies on and promises.
-use Prim.Native.Nat.{ℕ, _+_, _≤_}
+use Prim.Native.Nat.{ℕ, suc, _+_, _<_, _≤_}
 use mathlib.Core.Bool.{Bool, cond, not, _&&_}
 use mathlib.Core.List.{List, [], _∷_, _++_}
 use mathlib.Core.Path.{_≡_}
 use lib.Dec.{eqb}
-use lib.ListN.{length, take}
+use lib.ListN.{length, getD, take, drop}
 use Rattle.table.specs.Pairs.{Pair, codesOf, schedulesOf}
 use Rattle.table.specs.Words.{total}
 use Rattle.audit.specs.Check.{allCodes}
 use Rattle.reader.specs.Pairs.{allSchedules, stored, pairsIn}
+use Rattle.search.specs.code.Searchable.{Searchable}
 use Rattle.writer.specs.code.Valid.{ValidBuilt}
 use Rattle.editor.specs.Edit.{without}
 use Rattle.editor.specs.declared.changes.Change.{Change}
@@ -43,6 +44,13 @@ pub record Gathered (pairs : List Pair) (codes schedules : List ℕ) : Type 0 wh
   pub codes-are : codes ≡ codesOf pairs
   pub schedules-are : schedules ≡ schedulesOf pairs
 
+-- cell i is the first that holds such a pair, whatever schedules the cells have
+pub record FirstOther (code : ℕ) (cells : List ℕ) (i : ℕ) : Type 0 where
+  pub within : i < length cells
+  pub first :
+      (held : List ℕ) → length held ≡ length cells
+      → others code cells held ≡ record { code = getD cells i 0; schedule = getD held i 0 } ∷ others code (drop (suc i) cells) (drop (suc i) held)
+
 -- a change of a whole table
 pub record Changing (words : List ℕ) (x : Change) : Type 0 where
   pub whole : total words ≤ length words
@@ -63,3 +71,7 @@ Listed words x codes schedules =
 -- the total of the changed list, and the lent words at exit
 abbrev pub ChangedBuilt : ℕ → List ℕ → Change → List ℕ → ℕ → List ℕ → Type 0
 ChangedBuilt p words x = ValidBuilt p (codesOf (changed x (pairsIn words))) (schedulesOf (changed x (pairsIn words)))
+
+-- the same where there is one pair, for any prime
+abbrev pub LeftBuilt : List ℕ → Change → List ℕ → ℕ → List ℕ → Type 0
+LeftBuilt words x second total second′ = (p : ℕ) → Searchable p (codesOf (changed x (pairsIn words))) → ChangedBuilt p words x second total second′

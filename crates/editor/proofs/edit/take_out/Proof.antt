@@ -1,5 +1,5 @@
 -- `editor::edit::take_out` meets its contract: the code is not there exactly where all codes are others.
-use mathlib.Core.Path.{_≡_, sym, _∙_}
+use mathlib.Core.Path.{_≡_, refl, sym, _∙_}
 use native.Mathlib.Omega.{arith}
 use borrow.Author.Needs.{needs}
 use lib.ListN.{length}
@@ -7,7 +7,7 @@ use Rattle.table.specs.Words.{codeCount}
 use Rattle.reader.specs.Pairs.{pairsIn}
 use Rattle.editor.specs.Edit.{without}
 use Rattle.editor.specs.code.Changes.{changed}
-use Rattle.editor.proofs.Edits.{refusal, gone, out-outcome, without-searchable}
+use Rattle.editor.proofs.Edits.{refusal, rebuilding, gone, out-outcome, without-searchable}
 use Rattle.editor.proofs.edit.take_out.Statement.{statement}
 use Rattle.editor.proofs.edit.take_out.Tie as tie
 
@@ -29,22 +29,24 @@ returns c =
     refusal 55 0
     (gone (root w .pre .1 .1) _ _ (sym (counted w .count-others .ensures) ∙ c .if1 .taken ∙ w .wide .ensures .value))
 
-rebuild-requires : tie.Need-rebuild-requires
+write-without-requires : tie.Need-write-without-requires
 unfolding changed
-rebuild-requires c κs =
+write-without-requires c κs =
     let w = c .before .before in
     let s = root w in
     let f = s .pre .1 .1 in (
       without-searchable f _ (s .pre .0) (s .pre .1 .0),
-      record { whole = f .whole; at-most-one = omega arith; others-are = counted w .count-others .ensures },
+      (record { whole = f .whole; at-most-one = omega arith; others-are = counted w .count-others .ensures }, refl),
     )
 
 returns-2 : tie.Need-returns-2
 unfolding changed
 returns-2 c =
-    let r = c .before .before in
-    let e = r .before .before in
-    out-outcome (root (e .before) .pre .1 .1) _ (is-there e) (r .rebuild .ensures)
+    let w = c .before .before .before in
+    let e = w .before .before in
+    let s = root (e .before) in
+    out-outcome (s .pre .1 .1) _ (is-there e)
+    (rebuilding (without (s .args .code) (pairsIn (s .args .words .now))) (w .write-without .ensures) (c .rebuilt .ensures))
 
 pub take-out-spec : {M : Type 1} → statement M
 take-out-spec =
@@ -54,6 +56,7 @@ take-out-spec =
     (λ c. search needs)
     (λ c κs. search needs)
     returns
-    rebuild-requires
+    write-without-requires
+    (λ c κs. search needs)
     (λ c. search needs)
     returns-2)
