@@ -2,18 +2,20 @@
 -- from i on, and c is their cells: one for each code, and two for each pair that is put together. Cells only grow with the codes, so that
 -- c past the bound decides before all are counted.
 use Prim.Native.Nat.{ℕ, _+_, _*_, _-_, _<_, _≤_}
-use native.Mathlib.Decide.{ℕ-discrete}
+use native.Mathlib.Decide.{ℕ-discrete, decLt}
+use native.Mathlib.Nat.{mul-le-mul-right}
 use native.Mathlib.Omega.{arith}
 use mathlib.Core.Bool.{Bool, true, false, cond, true≢false}
-use mathlib.Core.List.{List}
+use mathlib.Core.List.{List, [], _∷_}
 use mathlib.Core.Path.{_≡_, refl, sym, ap, _∙_}
-use borrow.Author.Tests.{le-leb, lt-leb}
+use borrow.Author.Tests.{le-leb, lt-leb, eq-eqb, ne-eqb}
 use lib.Dec.{eqb}
 use lib.ListN.{length, getD, drop, set, replicate, length-set, length-drop, getD-replicate, length-replicate}
 use lib.Seq.{drop-length, getD-set-same, getD-set-other}
 use Rattle.hash.specs.Hash.{hashOf, load, together, cells}
 use Rattle.hash.proofs.Counting.{load-le, cells-is}
-use Rattle.hash.proofs.Indicators.{indicator, indicator-eq, indicator-ne}
+use Rattle.hash.proofs.Indicators.{indicator, indicator-eq, indicator-ne, indicator-square}
+use Rattle.table.specs.Limits.{room}
 use Rattle.table.specs.TwoLevel.{tabulate}
 use Rattle.table.proofs.Tabulate.{tabulate-is}
 use Rattle.search.specs.declared.blocks.Count.{Count}
@@ -38,6 +40,17 @@ raised counts t u l =
     elim (ℕ-discrete u t) [
       | yes e ↦ rw e (omega (arith, getD-set-same counts t (getD counts t 0 + 1) 0 l, indicator-eq t t refl))
       | no ne ↦ omega (arith, getD-set-other counts t u (getD counts t 0 + 1) 0 ne, indicator-ne t u (λ e. ne (sym e)))
+    ]
+
+-- the pairs within one block are pairs that are put together
+load-square :
+    (p k w t : ℕ) (s : List ℕ) → load p k w t s * load p k w t s ≤ load p k w t s + 2 * together p k w s
+unfolding load together
+load-square p k w t [] = omega arith
+load-square p k w t (a ∷ s) =
+    elim (ℕ-discrete (hashOf p k w a) t) [
+      | yes e ↦ rw (eq-eqb (hashOf p k w a) t e, e, indicator-square true (load p k w t s)) (omega (arith, load-square p k w t s))
+      | no ne ↦ rw (ne-eqb (hashOf p k w a) t ne, indicator-square false (load p k w t s)) (omega (arith, load-square p k w t s))
     ]
 
 -- the codes from i on are counted, and the bound is kept
@@ -72,6 +85,20 @@ module _
   where
     pub counting-load : getD counts t 0 ≤ length codes
     counting-load = omega (arith, h .loads t l, load-le p k (length codes) t (drop i codes), length-drop i codes)
+
+    -- the cells of its block alone are not too many: a count is a byte
+    pub counting-byte : length codes ≤ room → getD counts t 0 < 255
+    counting-byte few =
+        elim (decLt (getD counts t 0) 255) [
+          | yes l ↦ l
+          | no ge ↦
+              let m : ℕ = getD counts t 0 in
+              absurd
+              (omega (arith, mul-le-mul-right m (ge′ ge), h .count, h .bound, h .left, rw (← h .loads t l) at (load-square p k (length codes) t (drop i codes))))
+        ]
+      where
+        ge′ : (getD counts t 0 < 255 → ⊥) → 255 ≤ getD counts t 0
+        ge′ ge = omega arith
 
     counting-next : (c + (2 * getD counts t 0 + 1)) + (i - 1) ≡ length codes + 2 * together p k (length codes) (drop (i - 1) codes)
     unfolding together

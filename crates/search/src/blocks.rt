@@ -21,7 +21,7 @@ pub struct Multiplier {
 }
 
 // Sets every count to 0.
-fn clear(counts: &mut [u16])
+fn clear(counts: &mut [u8])
     ensures { λ _. ⌜ now (counts .exit) ≡ replicate (length (now (counts .entry))) 0 ⌝ }
 {
     let mut i = 0;
@@ -33,8 +33,8 @@ fn clear(counts: &mut [u16])
 
 // The cells under k, or an early exit once they are more than 3n - 2. A block that goes from m codes to m + 1 gets 2m + 1 cells more. The
 // codes are taken from the last, as the definitions count them: each one against those after it. The block of each code and the load of each block are
-// left for the counting sort.
-fn count_cells(h: Hasher, codes: &[u32], blocks: &mut [u16], counts: &mut [u16]) -> Count
+// left for the counting sort. A count is a byte: 79 codes in one block are too many cells.
+fn count_cells(h: Hasher, codes: &[u32], blocks: &mut [u16], counts: &mut [u8]) -> Count
     requires { ⌜ Hashing h × (h .places ≡ length (now codes)) ⌝ }
     requires { ⌜ Countable (h .prime) (now codes) (now blocks) (now counts) ⌝ }
     ensures { λ r. ⌜ Counted (h .prime) (h .multiplier) (now (codes .entry)) r (now (blocks .exit)) (now (counts .exit)) ⌝ }
@@ -52,19 +52,14 @@ fn count_cells(h: Hasher, codes: &[u32], blocks: &mut [u16], counts: &mut [u16])
         if most < c {
             return Count::TooMany;
         }
-        counts[t as usize] = (m + 1) as u16;
+        counts[t as usize] = (m + 1) as u8;
     }
     Count::Fits(c)
 }
 
 // The least multiplier from 1 to p - 1 that keeps the cells of a list with a code at most 3n - 2, and the cells under it. The search never gives up: by the
 // lemma the loop is left by its answer alone.
-pub fn blocks_multiplier(
-    p: u32,
-    codes: &[u32],
-    blocks: &mut [u16],
-    counts: &mut [u16],
-) -> Multiplier
+pub fn blocks_multiplier(p: u32, codes: &[u32], blocks: &mut [u16], counts: &mut [u8]) -> Multiplier
     requires { ⌜ Searchable p (now codes) × (0 < length (now codes)) ⌝ }
     requires { ⌜ (length (now blocks) ≡ length (now codes)) × (length (now counts) ≡ length (now codes)) ⌝ }
     ensures { λ r. ⌜ LeastBlocks p (now (codes .entry)) (r .k) (r .c) ⌝ }

@@ -48,7 +48,7 @@ fn write_with(
     codes: &[u32],
     schedules: &[u32],
     blocks: &mut [u16],
-    loads: &mut [u16],
+    loads: &mut [u8],
     words: &mut [u32],
 ) -> u32
     requires { ⌜ Searchable p (now codes) × ((0 < length (now codes)) × (length (now schedules) ≡ length (now codes))) ⌝ }
@@ -84,7 +84,7 @@ pub fn write_valid(p: u32, codes: &[u32], schedules: &[u32], words: &mut [u32]) 
     }
     if n <= FEW {
         let mut blocks = [0u16; FEW];
-        let mut loads = [0u16; FEW];
+        let mut loads = [0u8; FEW];
         return write_with(
             p,
             codes,
@@ -95,7 +95,7 @@ pub fn write_valid(p: u32, codes: &[u32], schedules: &[u32], words: &mut [u32]) 
         );
     }
     let mut blocks = [0u16; ROOM];
-    let mut loads = [0u16; ROOM];
+    let mut loads = [0u8; ROOM];
     write_with(
         p,
         codes,

@@ -36,7 +36,7 @@ fn write_header(shape: Shape, words: &mut [u32])
 }
 
 // Writes n, c and k, where the codes of each block end, the multiplier 1 for each, and 0 in all cells.
-fn write_front(shape: Shape, loads: &[u16], words: &mut [u32])
+fn write_front(shape: Shape, loads: &[u8], words: &mut [u32])
     requires { ⌜ (length (now loads) ≡ shape .codes) × ((shape .codes ≤ room) × (shape .cells < 4294967296)) ⌝ }
     requires { ⌜ startAt (now loads) (shape .codes) ≡ shape .cells ⌝ }
     requires { ⌜ length (now words) ≡ 3 + 2 * shape .codes + 2 * shape .cells ⌝ }
@@ -56,7 +56,7 @@ fn write_gathered(
     codes: &[u32],
     schedules: &[u32],
     blocks: &[u16],
-    loads: &[u16],
+    loads: &[u8],
     words: &mut [u32],
 )
     requires { ⌜ Writable shape (now codes) (now schedules) ⌝ }
@@ -72,7 +72,7 @@ fn write_gathered(
 // Places the pairs of block j, which has more codes than one, and writes its multiplier.
 fn write_shared(
     shape: Shape,
-    loads: &[u16],
+    loads: &[u8],
     j: usize,
     own: &mut [u32],
     places: &mut [u32],
@@ -101,7 +101,7 @@ pub(crate) fn write_table(
     codes: &[u32],
     schedules: &[u32],
     blocks: &mut [u16],
-    loads: &[u16],
+    loads: &[u8],
     words: &mut [u32],
 )
     requires { ⌜ Writable shape (now codes) (now schedules) ⌝ }

@@ -20,7 +20,6 @@ clear-spec =
     Inv-loop
     μ-loop
     (λ c. filling-start _ _)
-    (λ c. search needs)
     (λ c. omega arith)
     (λ c. omega arith)
     (λ c. omega arith)

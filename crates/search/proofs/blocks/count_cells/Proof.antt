@@ -5,7 +5,7 @@ use native.Mathlib.Omega.{arith}
 use borrow.Author.Needs.{needs}
 use lib.ListN.{length, getD, length-set}
 use Rattle.hash.specs.Hash.{hashOf}
-use Rattle.search.proofs.Counts.{Counting, counting-start, counting-load, counting-more, counting-over, counting-all, counting-blocked, over-leaves}
+use Rattle.search.proofs.Counts.{Counting, counting-start, counting-load, counting-byte, counting-more, counting-over, counting-all, counting-blocked, over-leaves}
 use Rattle.search.proofs.blocks.count_cells.Statement.{statement}
 use Rattle.search.proofs.blocks.count_cells.Tie as tie
 
@@ -40,6 +40,11 @@ module _ (c : tie.After-hash-by Inv-loop μ-loop) where
 
   within : c .hash-by .result < length (start .args .codes .now)
   within = omega (arith, c .hash-by .ensures .range, start .pre .0 .1)
+
+  byte : getD (c .before .before .before .loop .counts) (c .hash-by .result) 0 < 255
+  byte =
+      let test = c .before .before in
+      counting-byte (test .before .loop .inv .0) (test .loop-test .taken) (c .hash-by .result) own within (start .pre .1 .few)
 
   load : getD (c .before .before .before .loop .counts) (c .hash-by .result) 0 ≤ length (start .args .codes .now)
   load =
@@ -90,7 +95,6 @@ count-cells-spec =
     (λ c. omega arith)
     (λ c. search needs)
     (λ c. search needs)
-    (λ c. search needs)
     (λ c. record { fits = omega (arith, load (c .before), start (c .before) .pre .1 .few) })
     (λ c. omega (arith, load (c .before)))
     (λ c. omega (arith, load (c .before)))
@@ -99,8 +103,7 @@ count-cells-spec =
     (λ c. search needs)
     returns
     (λ c. omega (arith, load (c .before .before)))
-    (λ c. search needs)
-    (λ c. record { fits = omega (arith, load (c .before .before), start (c .before .before) .pre .1 .few) })
+    (λ c. record { fits = omega (arith, byte (c .before .before)) })
     (λ c. search needs)
     (λ c. search needs)
     (λ c. omega arith)

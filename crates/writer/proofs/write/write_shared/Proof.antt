@@ -39,7 +39,6 @@ write-shared-spec =
     (λ c. omega arith)
     (λ c κs. search needs)
     (λ c. omega (arith, c .wide .ensures .range))
-    (λ c. search needs)
     (λ c. omega arith)
     (λ c. search needs)
     write-block-requires
