@@ -14,6 +14,7 @@ use Rattle.reader.specs.Pairs.{allSchedules, stored, pairsIn}
 use Rattle.reader.proofs.Rising.{rising-perm}
 use Rattle.search.specs.code.Searchable.{Searchable}
 use Rattle.writer.specs.code.Valid.{ValidBuilt, OneBuilt}
+use Rattle.writer.proofs.Totals.{one-valid}
 use Rattle.editor.specs.Edit.{without}
 use Rattle.editor.specs.code.Changes.{otherCount, others, changed, Gatherable, Gathered, FirstOther, Changing, Roomy, Listed, ChangedBuilt}
 use Rattle.editor.specs.declared.changes.Change.{Change}
@@ -147,8 +148,7 @@ module _ (words : List ℕ) (n c : ℕ) (codes-are : n ≡ codeCount words) (cel
       unfolding changed others
       left-listed =
           let size : x .added + x .others ≡ 1 = omega arith in
-          let left = only-left in
-          rw (size, none, left) (record { codes-are = refl; schedules-are = refl })
+          rw (size, none, only-left) (record { codes-are = refl; schedules-are = refl })
 
   module _ {x : Change} (h : Changing words x) {codes schedules : List ℕ} (r : Roomy x codes schedules) where
     pub gatherable : Gatherable (x .code) cells held (places x codes (x .code)) (places x schedules (x .schedule))
@@ -211,10 +211,10 @@ module _
     pub left-built :
         {p : ℕ} {second second′ : List ℕ} {total : ℕ} → Searchable p (codesOf (changed x (pairsIn words)))
         → OneBuilt (getD words (3 + 2 * n + i) 0) (getD words (3 + 2 * n + c + i) 0) second total second′ → ChangedBuilt p words x second total second′
-    left-built {p} s built =
+    left-built s built =
         let l = left-listed words n c codes-are cells-are h none one f in
         let size : x .added + x .others ≡ 1 = omega arith in
-        listed-built words x _ _ s l (rw size (built p (rw size at (listed-searchable words x _ _ s l))))
+        listed-built words x _ _ s l (rw size (one-valid (rw size at (listed-searchable words x _ _ s l)) built))
 
 -- ---- a new pair and no others
 
@@ -228,4 +228,4 @@ only-new {words} {x} h new none =
 pub new-built :
     {p : ℕ} {words : List ℕ} {x : Change} {second second′ : List ℕ} {total : ℕ} → Searchable p (codesOf (changed x (pairsIn words))) → Changing words x
     → x .added ≡ 1 → x .others ≡ 0 → OneBuilt (x .code) (x .schedule) second total second′ → ChangedBuilt p words x second total second′
-new-built {p} s h new none built = rw (only-new h new none) (built p (rw (only-new h new none) at s))
+new-built s h new none built = rw (only-new h new none) (one-valid (rw (only-new h new none) at s) built)

@@ -89,16 +89,14 @@ module _
     -- the cells of its block alone are not too many: a count is a byte
     pub counting-byte : length codes ≤ room → getD counts t 0 < 255
     counting-byte few =
-        elim (decLt (getD counts t 0) 255) [
-          | yes l ↦ l
+        let m : ℕ = getD counts t 0 in
+        elim (decLt m 255) [
+          | yes small ↦ small
           | no ge ↦
-              let m : ℕ = getD counts t 0 in
+              let large : 255 ≤ m = omega arith in
               absurd
-              (omega (arith, mul-le-mul-right m (ge′ ge), h .count, h .bound, h .left, rw (← h .loads t l) at (load-square p k (length codes) t (drop i codes))))
+              (omega (arith, mul-le-mul-right m large, h .count, h .bound, h .left, rw (← h .loads t l) at (load-square p k (length codes) t (drop i codes))))
         ]
-      where
-        ge′ : (getD counts t 0 < 255 → ⊥) → 255 ≤ getD counts t 0
-        ge′ ge = omega arith
 
     counting-next : (c + (2 * getD counts t 0 + 1)) + (i - 1) ≡ length codes + 2 * together p k (length codes) (drop (i - 1) codes)
     unfolding together

@@ -20,7 +20,7 @@ use Rattle.search.specs.code.Blocks.{LeastBlocks, Blocked}
 use Rattle.search.proofs.LeastCells.{one-cell, cells-one}
 use Rattle.writer.specs.code.Grouping.{BlockOfEach, Loads}
 use Rattle.writer.specs.code.Writing.{Writable}
-use Rattle.writer.specs.code.Valid.{ValidBuilt, EmptyBuilt}
+use Rattle.writer.specs.code.Valid.{ValidBuilt, EmptyBuilt, oneTable, OneBuilt}
 
 module _ {p k c : ℕ} {codes : List ℕ} (f : LeastBlocks p codes k c) where
   cells-is : c ≡ cellsOf p codes
@@ -94,17 +94,33 @@ empty-built {p} {codes} {schedules} none same built =
 
 -- ---- one pair
 
+module _ (a v : ℕ) where
+  pub one-short : (words : List ℕ) → length words < 7 → OneBuilt a v words 7 words
+  one-short words l = record { totals = refl; words-at-exit = rw (lt-ltb (length words) 7 l) }
+
+  pub one-written : (words : List ℕ) → 7 ≤ length words → OneBuilt a v words 7 (set (set (set (set (set (set (set words 0 1) 1 1) 2 1) 3 0) 4 1) 5 a) 6 v)
+  one-written [] l = absurd (omega arith)
+  one-written (x₀ ∷ []) l = absurd (omega arith)
+  one-written (x₀ ∷ x₁ ∷ []) l = absurd (omega arith)
+  one-written (x₀ ∷ x₁ ∷ x₂ ∷ []) l = absurd (omega arith)
+  one-written (x₀ ∷ x₁ ∷ x₂ ∷ x₃ ∷ []) l = absurd (omega arith)
+  one-written (x₀ ∷ x₁ ∷ x₂ ∷ x₃ ∷ x₄ ∷ []) l = absurd (omega arith)
+  one-written (x₀ ∷ x₁ ∷ x₂ ∷ x₃ ∷ x₄ ∷ x₅ ∷ []) l = absurd (omega arith)
+  one-written (x₀ ∷ x₁ ∷ x₂ ∷ x₃ ∷ x₄ ∷ x₅ ∷ x₆ ∷ words) l =
+      record { totals = refl; words-at-exit = rw (le-ltb (length (x₀ ∷ x₁ ∷ x₂ ∷ x₃ ∷ x₄ ∷ x₅ ∷ x₆ ∷ words)) 7 l) }
+
+-- the least table of its list
 module _ {p a : ℕ} (s : Searchable p (a ∷ [])) where
   one-cells : cells p 1 (a ∷ []) ≡ 1
   unfolding cells sum load
   one-cells = rw (one-cell p 1 a)
 
-  pub one-least : LeastBlocks p (a ∷ []) 1 1
+  one-least : LeastBlocks p (a ∷ []) 1 1
   unfolding blocksMultiplier
   one-least =
       record {
-        multiplier = sym (least-unique _ p 1 (record { from-one = omega arith; below = omega (arith, s .prime .two-le); passes = rw (one-cells); least = λ j f l. absurd (omega arith) }));
-        cells = sym (one-cells);
+        multiplier = sym (least-unique _ p 1 (record { from-one = omega arith; below = omega (arith, s .prime .two-le); passes = rw one-cells; least = λ j f l. absurd (omega arith) }));
+        cells = sym one-cells;
       }
 
   one-front : frontWith p 1 (a ∷ []) ≡ 1 ∷ 1 ∷ 1 ∷ 0 ∷ 1 ∷ []
@@ -115,22 +131,15 @@ module _ {p a : ℕ} (s : Searchable p (a ∷ [])) where
   unfolding ownCell blockOf cellIn
   one-own = rw (one-cell p 1 a) (omega (arith, one-cell p 1 a))
 
-  one-table : (v : ℕ) → 1 ∷ 1 ∷ 1 ∷ 0 ∷ 1 ∷ a ∷ v ∷ [] ≡ tableWith p (frontWith p 1 (a ∷ [])) 1 (a ∷ []) (v ∷ [])
+  one-table : (v : ℕ) → oneTable a v ≡ tableWith p (frontWith p 1 (a ∷ [])) 1 (a ∷ []) (v ∷ [])
   unfolding tableWith tabulate heldAt paired valueWhere
   one-table v = rw (one-front, one-own)
 
-  pub one-written :
-      (v : ℕ) (words : List ℕ) → 7 ≤ length words
-      → ValidBuilt p (a ∷ []) (v ∷ []) words 7 (set (set (set (set (set (set (set words 0 1) 1 1) 2 1) 3 0) 4 1) 5 a) 6 v)
-  one-written v [] l = absurd (omega arith)
-  one-written v (x₀ ∷ []) l = absurd (omega arith)
-  one-written v (x₀ ∷ x₁ ∷ []) l = absurd (omega arith)
-  one-written v (x₀ ∷ x₁ ∷ x₂ ∷ []) l = absurd (omega arith)
-  one-written v (x₀ ∷ x₁ ∷ x₂ ∷ x₃ ∷ []) l = absurd (omega arith)
-  one-written v (x₀ ∷ x₁ ∷ x₂ ∷ x₃ ∷ x₄ ∷ []) l = absurd (omega arith)
-  one-written v (x₀ ∷ x₁ ∷ x₂ ∷ x₃ ∷ x₄ ∷ x₅ ∷ []) l = absurd (omega arith)
-  one-written v (x₀ ∷ x₁ ∷ x₂ ∷ x₃ ∷ x₄ ∷ x₅ ∷ x₆ ∷ words) l =
-      valid-written one-least (v ∷ []) (x₀ ∷ x₁ ∷ x₂ ∷ x₃ ∷ x₄ ∷ x₅ ∷ x₆ ∷ words) (1 ∷ 1 ∷ 1 ∷ 0 ∷ 1 ∷ a ∷ v ∷ []) l (one-table v)
+  pub one-valid : {v total : ℕ} {words words′ : List ℕ} → OneBuilt a v words total words′ → ValidBuilt p (a ∷ []) (v ∷ []) words total words′
+  one-valid {v} {total} {words} b =
+      let needed : wordsNeeded p (a ∷ []) ≡ 7 = sym (total-is one-least) in
+      let table : tableOf p (a ∷ []) (v ∷ []) ≡ oneTable a v = sym (one-table v ∙ table-is one-least (v ∷ []) words) in
+      record { totals = b .totals ∙ sym needed; words-at-exit = rw (needed, table) (b .words-at-exit) }
 
 -- ---- what the search for k leaves
 

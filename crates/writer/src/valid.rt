@@ -24,7 +24,7 @@ pub fn write_empty(words: &mut [u32]) -> u32
     3
 }
 
-// Writes the table of one pair, the same for any prime: every multiplier keeps one code in one cell. Gives 7; where fewer words are lent none is written.
+// Writes the table of one pair, the same for any prime: every multiplier puts one code in one cell. Gives 7; where fewer words are lent none is written.
 pub fn write_one(code: u32, schedule: u32, words: &mut [u32]) -> u32
     ensures { λ r. ⌜ OneBuilt code schedule (now (words .entry)) r (now (words .exit)) ⌝ }
 {

@@ -2,7 +2,7 @@
 use native.Mathlib.Omega.{arith}
 use borrow.Author.Needs.{needs}
 use lib.ListN.{length-set}
-use Rattle.writer.proofs.Totals.{too-short, one-least, one-written}
+use Rattle.writer.proofs.Totals.{one-short, one-written}
 use Rattle.writer.proofs.valid.write_one.Statement.{statement}
 use Rattle.writer.proofs.valid.write_one.Tie as tie
 
@@ -10,7 +10,7 @@ pub write-one-spec : {M : Type 1} → statement M
 write-one-spec =
     tie.close
     (tie.spec
-    (λ c p s. too-short (one-least s) _ _ (c .if1 .taken))
+    (λ c. one-short _ _ _ (c .if1 .taken))
     (λ c. search needs)
     (λ c. simp length-set (omega arith))
     (λ c. simp length-set (omega arith))
@@ -19,4 +19,4 @@ write-one-spec =
     (λ c. simp length-set (omega arith))
     (λ c. search needs)
     (λ c. search needs)
-    (λ c p s. one-written s _ _ (c .if1 .left)))
+    (λ c. one-written _ _ _ (c .if1 .left)))
