@@ -1,5 +1,6 @@
 /* The query loops of the functions of glass.h, and of the yardstick's under their own names: compiled once for each, with
- * -DPREFIX=glass, -DPREFIX=yard and -DPREFIX=yardgcc, apart from the functions themselves, so that each query is a call. */
+ * -DPREFIX=glass, -DPREFIX=yard and -DPREFIX=yardgcc, apart from the functions themselves, so that each query is a call, which gives the cell too. The
+ * loops take the schedule alone, as those of the other structures do, which have no cells. */
 #include "glass.h"
 #include "structure.h"
 
@@ -9,8 +10,8 @@
 
 glass_answer NAME(build)(const uint32_t *, size_t, const uint32_t *, size_t, uint32_t *, size_t);
 glass_answer NAME(check)(const uint32_t *, size_t);
-glass_answer NAME(lookup)(const uint32_t *, size_t, uint32_t);
-glass_answer NAME(panel)(const uint32_t *, size_t, const uint32_t *, size_t);
+glass_found NAME(lookup)(const uint32_t *, size_t, uint32_t);
+glass_found NAME(panel)(const uint32_t *, size_t, const uint32_t *, size_t);
 glass_answer NAME(pairs)(const uint32_t *, size_t, uint32_t *, size_t, uint32_t *, size_t);
 
 static size_t total(const uint32_t *words) { return 3 + 2 * ((size_t)words[0] + words[1]); }
@@ -24,7 +25,7 @@ static void drop(void *words) { (void)words; }
 static void answers(const void *words, const uint32_t *codes, size_t count, uint32_t *out) {
     size_t len = total(words);
     for (size_t i = 0; i < count; i++) {
-        glass_answer a = NAME(lookup)(words, len, codes[i]);
+        glass_found a = NAME(lookup)(words, len, codes[i]);
         /* a refusal is no answer of the benchmark */
         out[i] = a.number == 0 || a.number == GLASS_ABSENT ? a.value : ~(uint32_t)0;
     }
@@ -48,7 +49,7 @@ static uint64_t panels(const void *words, const uint32_t *codes, size_t count) {
     size_t len = total(words);
     uint64_t s = 0;
     for (size_t i = 0; i < count; i++) {
-        glass_answer a = NAME(panel)(words, len, codes + 64 * i, 64);
+        glass_found a = NAME(panel)(words, len, codes + 64 * i, 64);
         s += a.number == 0 ? a.value : 0;
     }
     return s;

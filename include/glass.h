@@ -13,8 +13,9 @@
  * Stack. glass_insert and glass_remove use up to 24 KiB, glass_pairs up to 18 KiB, glass_build up to 12 KiB, the others less than 1 KiB.
  *
  * Answers. Every function answers a number and a value: GLASS_OK with the result, GLASS_ABSENT (lookup, panel), or a refusal with what comes with it.
- * Both are 32 bits in a glass_answer; in a glass_size, which reading and writing a text answer, the value is a size_t. Refusals are tested in the order in
- * which each function lists them, each over all pairs, blocks, cells or lines before the next; pairs, blocks, cells and lines are counted from 0.
+ * Both are 32 bits in a glass_answer; in a glass_size, which reading and writing a text answer, the value is a size_t; in a glass_found, which a lookup and
+ * a panel answer, a cell stands beside them. Refusals are tested in the order in which each function lists them, each over all pairs, blocks, cells or
+ * lines before the next; pairs, blocks, cells and lines are counted from 0.
  */
 #ifndef GLASS_H
 #define GLASS_H
@@ -35,6 +36,12 @@ typedef struct {
     uint32_t number; /* a glass_number */
     size_t value;    /* pairs, lines or bytes */
 } glass_size;
+
+typedef struct {
+    uint32_t number; /* a glass_number */
+    uint32_t value;
+    uint32_t cell;   /* with GLASS_OK the cell of the code, from 0 to c - 1 over the whole table; otherwise 0 */
+} glass_found;
 
 /* Every number that can come back, and what `value` holds with it: 0 where nothing is said. */
 typedef enum {
@@ -120,18 +127,19 @@ glass_answer glass_check(const uint32_t *words, size_t words_len);
 
 /* Looks a code up, in at most eight words of the table.
  *
- * Result: the code's schedule, or GLASS_ABSENT.
+ * Result: the code's schedule with its cell, or GLASS_ABSENT. The code stands in that cell, also where the table was not checked before; so different
+ * codes are found in different cells.
  *
  * Refusals: 31 to 34. */
-glass_answer glass_lookup(const uint32_t *words, size_t words_len, uint32_t code);
+glass_found glass_lookup(const uint32_t *words, size_t words_len, uint32_t code);
 
 /* Finds the schedule of a panel, a batch of 1 to GLASS_MOST_PANEL codes fired together: the largest schedule of its codes. The codes are looked up in
  * their order, and the first one that is absent or refused ends the panel.
  *
- * Result: the schedule, or GLASS_ABSENT with the index of the code.
+ * Result: the schedule, with the cell of the first code that has it; or GLASS_ABSENT with the index of the code.
  *
  * Refusals: 35, 36; then 31 to 34, with the index of the code. */
-glass_answer glass_panel(const uint32_t *words, size_t words_len, const uint32_t *codes, size_t codes_len);
+glass_found glass_panel(const uint32_t *words, size_t words_len, const uint32_t *codes, size_t codes_len);
 
 /* Reads a table back: its pairs by rising code into the first places of codes and schedules. Later places keep what they held.
  *

@@ -1,11 +1,13 @@
 #!/usr/bin/env python3
-"""A second implementation of the build, the check and the listing of document 01, of lists as text and of test loads
-(document 02, Changes 1 and 2), to compare the proved ones with.
+"""A second implementation of the build, the check, the lookup, the panel and the listing of document 01, of lists as text
+and of test loads (document 02, Changes 1 and 2), and of the cells that are found (Change 4), to compare the proved ones
+with.
 
 Written from the papers alone, with the standard library alone.
 
   tools/second_program.py make
-      writes the stored input and expected output of the programs `compare`, `compare_texts`, `compare_loads` and `make_*`
+      writes the stored input and expected output of the programs `compare`, `compare_texts`, `compare_loads`,
+      `compare_lookups` and `make_*`
   tools/second_program.py fresh SEED COUNT PROGRAM
       makes COUNT lists from SEED, runs PROGRAM (`compare`) on them and compares what it prints
   tools/second_program.py fresh-texts SEED COUNT PROGRAM
@@ -14,6 +16,9 @@ Written from the papers alone, with the standard library alone.
   tools/second_program.py fresh-loads SEED COUNT PROGRAM
       makes COUNT lengths of loads and lent places from SEED, runs PROGRAM (`compare_loads`) on them and compares what it
       prints
+  tools/second_program.py fresh-lookups SEED COUNT PROGRAM
+      makes COUNT tables, whole and damaged, with codes to look up and a panel from SEED, runs PROGRAM (`compare_lookups`) on
+      them and compares what it prints
   tools/second_program.py fresh-tables SEED COUNT PROGRAM
       makes COUNT texts from SEED, runs PROGRAM (`make_table`) on each and compares what it prints
   tools/second_program.py fresh-files SEED COUNT PROGRAM
@@ -41,6 +46,12 @@ schedules (how many), which are lent as above.
 Output:
   `generated NUMBER VALUE DIGEST DIGEST`, the digests of all lent codes and of all lent schedules after the call; unless it
   is refused, `built n c k total digest` of the load's table, and where it is listed, the listing of document 01
+
+Input of `compare_lookups`, for each table, whole or damaged: its words, the codes that are looked up and the codes of the
+panel; before each of the three, how many they are.
+Output:
+  `found CODE NUMBER VALUE CELL` for each code that is looked up
+  `fired NUMBER VALUE CELL`, what the panel answers
 """
 import collections
 import itertools
@@ -58,15 +69,17 @@ P = 65537
 MOST_PAIRS = 2048
 MOST_NUMBER = 4294967295
 MOST_FILE = 65536
+MOST_PANEL = 64
 
 SHORT = 32
 SHORT_TEXT = 256
 OLD_CODE = 7000000
 OLD_SCHEDULE = 8000000
 OLD_BYTES = 251
-# what `compare_texts` and `compare_loads` have room for
+# what `compare_texts`, `compare_loads` and `compare_lookups` have room for
 MOST_PLACES = 4096
 MOST_TEXT = 65536
+MOST_WORDS = 16384
 
 CRATES = pathlib.Path(__file__).resolve().parent.parent / "crates"
 
@@ -160,8 +173,8 @@ def arrays_refused(words):
     return first or ((21, found) if found != n else None)
 
 
-def check(words):
-    """The number and the value of a check's refusal, None for a well-formed table."""
+def sizes_refused(words):
+    """The number and the value of a check's refusal by 11 to 15, None where there are words enough for sizes in range."""
     if len(words) < 3:
         return 11, 0
     n, c, k = words[:3]
@@ -172,7 +185,63 @@ def check(words):
     if not 1 <= k < P:
         return 14, 0
     total = bounds(n, c)[-1]
-    return (15, total) if len(words) < total else arrays_refused(words)
+    return (15, total) if len(words) < total else None
+
+
+def check(words):
+    """The number and the value of a check's refusal, None for a well-formed table."""
+    return sizes_refused(words) or arrays_refused(words)
+
+
+ABSENT = 1000, 0, 0
+
+
+def lookup(words, code):
+    """The number, the value and the cell of a code in any words."""
+    if not 1 <= code < P:
+        return 31, 0, 0
+    if len(words) < 3:
+        return 32, 0, 0
+    if sizes_refused(words):
+        return 33, 0, 0
+    n, c, k = words[:3]
+    if n == 0:
+        return ABSENT
+    j = k * code % P % n
+    start = words[3 + j]
+    # the word after the last start is the q of block 0
+    end = words[3 + j + 1] if j + 1 < n else c
+    if start > end or end > c:
+        return 34, 0, 0
+    # a block without cells is absent whatever its q
+    if start == end:
+        return ABSENT
+    q = words[3 + n + j]
+    if not 1 <= q < P:
+        return 34, 0, 0
+    cell = start + q * code % P % (end - start)
+    if words[3 + 2 * n + cell] != code:
+        return ABSENT
+    schedule = words[3 + 2 * n + c + cell]
+    return (0, schedule, cell) if 1 <= schedule <= 999 else (34, 0, 0)
+
+
+def panel(words, codes):
+    """The number, the value and the cell of a panel in any words."""
+    if not codes:
+        return 35, 0, 0
+    if len(codes) > MOST_PANEL:
+        return 36, 0, 0
+    # no schedule is below 1, so the first code replaces this
+    largest, where = 0, 0
+    for i, code in enumerate(codes):
+        number, schedule, cell = lookup(words, code)
+        if number:
+            return number, i, 0
+        # of several with the largest schedule the first decides
+        if schedule > largest:
+            largest, where = schedule, cell
+    return 0, largest, where
 
 
 def listing(words, pairs):
@@ -314,8 +383,8 @@ class Built(typing.NamedTuple):
     def encoded(self):
         return packed([len(self.pairs)] + [a for a, _ in self.pairs] + [s for _, s in self.pairs])
 
-    def number(self):
-        return 0
+    def answered(self):
+        return [("built", 0)]
 
     def expected(self):
         words = build(self.pairs)
@@ -335,8 +404,8 @@ class Read(typing.NamedTuple):
     def answer(self):
         return read_list(self.text, self.code_places, self.schedule_places)
 
-    def number(self):
-        return self.answer()[0]
+    def answered(self):
+        return [("read", self.answer()[0])]
 
     def expected(self):
         number, value, pairs = self.answer()
@@ -357,8 +426,8 @@ class Written(typing.NamedTuple):
     def answer(self):
         return write_list(self.codes, self.schedules, self.lent)
 
-    def number(self):
-        return self.answer()[0]
+    def answered(self):
+        return [("written", self.answer()[0])]
 
     def expected(self):
         number, value, text = self.answer()
@@ -382,8 +451,8 @@ class Generated(typing.NamedTuple):
     def answer(self):
         return generate(self.length, self.code_places, self.schedule_places)
 
-    def number(self):
-        return self.answer()[0]
+    def answered(self):
+        return [("generated", self.answer()[0])]
 
     def expected(self):
         number, value, pairs = self.answer()
@@ -392,6 +461,26 @@ class Generated(typing.NamedTuple):
             return line
         words = build(pairs)
         return line + line_of(["built"] + summary(words)) + (listing(words, pairs) if self.listed else b"")
+
+
+class LookedUp(typing.NamedTuple):
+    """Words in which `compare_lookups` looks codes up, and a panel."""
+
+    words: list
+    codes: list
+    panel: list
+
+    def encoded(self):
+        assert len(self.words) <= MOST_WORDS and max(len(self.codes), len(self.panel)) <= MOST_PLACES
+        return b"".join(packed([len(numbers)] + numbers) for numbers in self)
+
+    def answered(self):
+        found = [("found", lookup(self.words, code)[0]) for code in self.codes]
+        return found + [("fired", panel(self.words, self.panel)[0])]
+
+    def expected(self):
+        found = [line_of(["found", code, *lookup(self.words, code)]) for code in self.codes]
+        return b"".join(found) + line_of(["fired", *panel(self.words, self.panel)])
 
 
 def encoded(cases):
@@ -804,20 +893,24 @@ def full_file(r, words):
     return packed(with_rest(r, words, MOST_FILE // 4 - len(words)))
 
 
+# each makes the words of a table, whole or damaged
+TABLES = [
+    good_table,
+    lambda r: with_rest(r, good_table(r), r.randint(1, 30)),
+    lambda r: changed(r, good_table(r)),
+    lambda r: changed(r, good_table(r)),
+    lambda r: changed(r, good_table(r)),
+    lambda r: with_rest(r, changed(r, good_table(r)), r.randint(1, 30)),
+    lambda r: moved(r, good_table(r)),
+    lambda r: changed(r, moved(r, good_table(r))),
+    resized_table,
+    miscounted_table,
+    small_table,
+    lambda r: cut(r, good_table(r)),
+]
+
 # each makes the bytes of a file
-FILES = [
-    lambda r: packed(good_table(r)),
-    lambda r: packed(with_rest(r, good_table(r), r.randint(1, 30))),
-    lambda r: packed(changed(r, good_table(r))),
-    lambda r: packed(changed(r, good_table(r))),
-    lambda r: packed(changed(r, good_table(r))),
-    lambda r: packed(with_rest(r, changed(r, good_table(r)), r.randint(1, 30))),
-    lambda r: packed(moved(r, good_table(r))),
-    lambda r: packed(changed(r, moved(r, good_table(r)))),
-    lambda r: packed(resized_table(r)),
-    lambda r: packed(miscounted_table(r)),
-    lambda r: packed(small_table(r)),
-    lambda r: packed(cut(r, good_table(r))),
+FILES = [lambda r, table=table: packed(table(r)) for table in TABLES] + [
     lambda r: packed(with_rest(r, good_table(r), r.randint(0, 9)))[: -r.randint(1, 3)],
     lambda r: full_file(r, r.choice([good_table, small_table])(r)),
     lambda r: full_file(r, changed(r, good_table(r))),
@@ -832,6 +925,146 @@ def random_files(seed, count):
     r = random.Random(seed)
     files = [b"", packed(build(P5))] + [r.choice(FILES)(r) for _ in range(count - 2)]
     return files[:count]
+
+
+# ---- tables to look codes up in
+
+# the ends of the range of a code, one beyond, and the largest number
+ENDS = [0, 1, P - 1, P, MOST_NUMBER]
+
+
+def known_codes(words):
+    """The codes in the cells of a table; of other words, what stands where these would be."""
+    return [a for a in arrays(words)[2] if a] if len(words) > 1 else []
+
+
+def paper_lookups():
+    """In the tables of P1 to P5, some with words after them, their codes, those of P8 and P9 and the ends, and a panel; then P12."""
+    tables = [build(pairs) + rest for pairs in paper_lists() for rest in ([], [1], [MOST_NUMBER] * 9)]
+    cases = [LookedUp(words, known_codes(words) + [3, 10] + ENDS, known_codes(words)) for words in tables]
+    return cases + [LookedUp(build(P5), [], [7, 17, 4])]
+
+
+def tied_panels():
+    """Panels of all one, two and three codes of five, the same one more than once too; three of the five have the largest schedule."""
+    pairs = [(4, 12), (7, 15), (8, 15), (17, 14), (20, 15)]
+    panels = [list(codes) for m in (1, 2, 3) for codes in itertools.product([a for a, _ in pairs], repeat=m)]
+    return [LookedUp(build(pairs), [], codes) for codes in panels]
+
+
+def ended_panels():
+    """Panels of P5 that one code or the first of two ends: absent from an empty block or a cell, out of range, in a damaged block."""
+    words, codes = build(P5), [7, 17, 4]
+    # the q of the block of 20
+    words[8] = 0
+    ending = [[a] for a in (6, 9, 0, P, 20)]
+    ending += [first + second for first, second in itertools.permutations(ending, 2)]
+    return [LookedUp(words, [], codes[:i] + ends + codes[i:]) for i in (0, 1, 3) for ends in ending]
+
+
+def panel_lengths():
+    """Panels of 0 to 200 codes, in a table, an empty one, one that is cut and no words; about 64 also with another code last or first."""
+    words = build(P5)
+    lent = [words, build([]), words[:-1], []]
+    cases = [LookedUp(w, [], ([7, 17, 4] * 67)[:m]) for w in lent for m in (0, 1, 63, 64, 65, 200)]
+    cases += [LookedUp(words, [], [4] * (m - 1) + [last]) for m in (64, 65) for last in (20, 5, 0, P)]
+    return cases + [LookedUp(words, [], [first] + [4] * 64) for first in (5, 0, P)]
+
+
+def blank_table(n, c):
+    """A table without codes whose last block has all the cells."""
+    return [n, c, 1] + [0] * n + [1] * n + [0] * (2 * c)
+
+
+def sized_lookups():
+    """Words that are too few; n, c and k at the ends of their ranges and beyond, with words enough where these can be lent."""
+    words = build([(2, 1), (6, 2)])
+    tables = [words[:length] for length in range(len(words) + 1)]
+    tables += [words[:2] + [k] + words[3:] for k in (0, P - 1, P, MOST_NUMBER)]
+    tables += [blank_table(n, c) for n in range(4) for c in range(3 * n + 1)]
+    tables += [blank_table(n, 0) for n in (MOST_PAIRS, MOST_PAIRS + 1)]
+    # in 32 bits their totals would be at most that of the words
+    sizes = [(2**31, 4), (2, 2**31), (2**31 + 2, 4), (2, 2**31 + 4), (2**31, 2**31)]
+    tables += [[n, c] + words[2:] for n, c in sizes]
+    return [LookedUp(w, [2, 6, 3, 0, P], [6, 2]) for w in tables]
+
+
+def last_multiplier_lookups():
+    """The last k and the last q with the last code: a product of 33 bits."""
+    last = P - 1
+    tables = [
+        laid_out(last, [[1], [last]], [1, 1], [last, last], {1: 6, last: 5}),
+        laid_out(1, [[2, last], []], [4, 0], [last, last], {2: 6, last: 5}),
+    ]
+    return [LookedUp(words, [1, 2, last], known_codes(words)) for words in tables]
+
+
+def changed_lookups(pairs):
+    """The table of a list with each word in turn at the ends of the ranges, one beyond them, one less and one more."""
+    words = build(pairs)
+    c = words[1]
+    codes = [a for a, _ in pairs]
+    cases = []
+    for i, word in enumerate(words):
+        others = {0, 1, (word - 1) % (MOST_NUMBER + 1), word + 1, c, c + 1, 999, 1000, P - 1, P, MOST_NUMBER} - {word}
+        cases += [LookedUp(words[:i] + [other] + words[i + 1 :], codes, codes) for other in sorted(others)]
+    return cases
+
+
+def largest_lookups():
+    """The largest test load: codes with index 1,997 and 998 have schedule 999, the earlier one of the panel decides."""
+    pairs = test_load(MOST_PAIRS)
+    codes = [a for a, _ in pairs]
+    absent = sorted(set(range(1, P)) - set(codes))
+    panel_codes = codes[1990:2000] + codes[990:1000] + codes[:44]
+    return [LookedUp(build(pairs), codes[::32] + codes[-1:] + absent[::1000] + ENDS, panel_codes)]
+
+
+def tied_table(r):
+    """A well-formed table of two schedules, so that several codes of a panel have the largest."""
+    words = good_table(r)
+    at = bounds(*words[:2])[3]
+    return words[:at] + [s and r.choice([998, 999]) for s in words[at:]]
+
+
+def any_words(r):
+    return unpacked(r.randbytes(4 * r.randint(0, 50)))
+
+
+def any_code(r, known, words):
+    """A code of the table, one beside it, one of the ends, a word of the table, any code or any number."""
+    a = r.choice(known)
+    beside = (a + r.choice([-1, 1])) % (MOST_NUMBER + 1)
+    return r.choice([a, a, beside, r.choice(ENDS), r.choice(ENDS + words), r.randrange(1, P), any_number(r)])
+
+
+def any_panel(r, known, words):
+    """A panel of codes of the table, now and then with another code among them."""
+    most = MOST_PANEL
+    m = r.choice([0, 1, 2, 3, r.randint(2, 8), r.randint(2, 8), r.randint(1, most), most, most + 1])
+    codes = r.choices(known, k=m)
+    if codes and r.random() < 0.3:
+        codes[r.randrange(m)] = any_code(r, known, words)
+    return codes
+
+
+def random_lookups(seed, count, most_words):
+    """Tables of all kinds with at most so many words; codes that are mostly theirs."""
+    r = random.Random(seed)
+    makers = TABLES + [tied_table, tied_table, lambda r: changed(r, tied_table(r)), any_words]
+    tables = (words for _ in itertools.count() for words in [r.choice(makers)(r)] if len(words) <= most_words)
+    cases = []
+    for words in itertools.islice(tables, count):
+        known = known_codes(words) or ENDS
+        codes = r.sample(known, min(len(known), 12)) + [any_code(r, known, words) for _ in range(r.randint(0, 8))]
+        cases.append(LookedUp(words, codes, any_panel(r, known, words)))
+    return cases
+
+
+def stored_lookups():
+    cases = paper_lookups() + tied_panels() + ended_panels() + panel_lengths()
+    cases += sized_lookups() + last_multiplier_lookups() + changed_lookups([(2, 1), (6, 2)]) + changed_lookups(P5)
+    return cases + largest_lookups() + random_lookups(34, 200, 100)
 
 
 # ---- the stored files, and fresh cases
@@ -851,12 +1084,17 @@ def tally(answers):
 
 
 def counted(cases):
-    """How many cases of each kind answer each number."""
-    return tally((type(case).__name__.lower(), case.number()) for case in cases)
+    """How many answers of the cases there are of each kind and number."""
+    return tally(answer for case in cases for answer in case.answered())
 
 
 def make():
-    programs = {"compare": [Built(pairs) for pairs in stored_lists()], "compare_texts": stored_texts(), "compare_loads": stored_loads()}
+    programs = {
+        "compare": [Built(pairs) for pairs in stored_lists()],
+        "compare_texts": stored_texts(),
+        "compare_loads": stored_loads(),
+        "compare_lookups": stored_lookups(),
+    }
     for program, cases in programs.items():
         store(program, encoded(cases), expected(cases))
         print(f"{program}: {counted(cases)}")
@@ -921,6 +1159,7 @@ FRESH = {
     "fresh": lambda seed, count, program: fresh([Built(pairs) for pairs in random_lists(seed, count)], program),
     "fresh-texts": lambda seed, count, program: fresh(random_texts(seed, count), program),
     "fresh-loads": lambda seed, count, program: fresh(random_loads(seed, count), program),
+    "fresh-lookups": lambda seed, count, program: fresh(random_lookups(seed, count, MOST_WORDS), program),
     "fresh-tables": lambda seed, count, program: fresh_tables(random_studio_texts(seed, count), program),
     "fresh-files": fresh_files,
 }

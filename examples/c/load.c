@@ -18,7 +18,7 @@ int main(void)
     glass_answer built = glass_build(codes, load.value, schedules, load.value, words, GLASS_MOST_WORDS);
     uint32_t found = 0;
     for (uint32_t i = 0; i < load.value; i++) {
-        glass_answer answer = glass_lookup(words, built.value, codes[i]);
+        glass_found answer = glass_lookup(words, built.value, codes[i]);
         found += answer.number == GLASS_OK && answer.value == schedules[i];
     }
     printf("%u pairs in %u words, %u found\n", load.value, built.value, found);

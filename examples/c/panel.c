@@ -17,14 +17,15 @@ int main(void)
     }
     printf("built %u words\n", built.value);
     for (uint32_t code = 16; code <= 17; code++) {
-        glass_answer found = glass_lookup(words, built.value, code);
+        glass_found found = glass_lookup(words, built.value, code);
         if (found.number == GLASS_OK)
-            printf("code %u: schedule %u\n", code, found.value);
+            printf("code %u: schedule %u, cell %u\n", code, found.value, found.cell);
         else if (found.number == GLASS_ABSENT)
             printf("code %u: absent\n", code);
         else
             printf("code %u: refused %u\n", code, found.number);
     }
-    printf("panel of 7, 17 and 4: schedule %u\n", glass_panel(words, built.value, panel, 3).value);
+    glass_found fired = glass_panel(words, built.value, panel, 3);
+    printf("panel of 7, 17 and 4: schedule %u, cell %u\n", fired.value, fired.cell);
     return 0;
 }

@@ -27,7 +27,8 @@ int main(void)
         printf("refused %u, at line %u\n", built.number, built.value + 1);
         return 1;
     }
-    printf("code 17: schedule %u\n", glass_lookup(words, built.value, 17).value);
+    glass_found found = glass_lookup(words, built.value, 17);
+    printf("code 17: schedule %u, cell %u\n", found.value, found.cell);
 
     glass_size written = glass_write_list(codes, list.value, schedules, list.value, text, sizeof text);
     printf("written %zu bytes, %s\n", written.value, memcmp(text, sent, written.value) == 0 ? "those that were read" : "others");

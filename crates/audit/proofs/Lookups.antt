@@ -1,4 +1,5 @@
--- What is looked up in a well-formed table: a code that stands in a cell is found with that cell's schedule, and any other is absent.
+-- What is looked up in a well-formed table: a code that stands in a cell is found with that cell's schedule, in that cell, and any
+-- other is absent.
 -- A code in a cell is in its own, which is the one cell that a lookup reads.
 use Prim.Native.Nat.{ℕ, _-_, _<_, _≤_}
 use mathlib.Core.Bool.{true, false, cond}
@@ -82,7 +83,7 @@ module _ {p limit : ℕ} {words : List ℕ} (f : WellFormed p limit words) where
           within-holds 1 (p - 1) (blockMultiplier words j) (f .block-in-range j l .0) (omega (arith, f .block-in-range j l)),
         )
 
-    pub lookup-found : (i : ℕ) → i < cellCount words → cellCode words i ≡ a → lookupOf p limit words a ≡ given (cellSchedule words i ∷ [])
+    pub lookup-found : (i : ℕ) → i < cellCount words → cellCode words i ≡ a → lookupOf p limit words a ≡ given (cellSchedule words i ∷ i ∷ [])
     unfolding inCell
     lookup-found i l e =
         let some : 0 < codeCount words = some-codes words (f .no-cells) i l in

@@ -1,20 +1,20 @@
 -- Which answers each operation gives: refusals stand one below the other, so one law over a list of tests serves every operation.
 use Prim.Native.Nat.{ℕ, suc, max, _+_, _-_, _%_, _<_, _≤_}
+use native.Mathlib.Decide.{decLt}
 use native.Mathlib.Nat.{max-le, le-max-right}
 use native.Mathlib.Omega.{arith}
 use mathlib.Core.Bool.{Bool, true, false, cond, not, _&&_, _||_, true≢false}
 use mathlib.Core.List.{List, [], _∷_, _++_}
 use mathlib.Core.Logic.{_⊎_, inl, inr}
 use mathlib.Core.Path.{_≡_, refl, sym, ap, _∙_}
-use borrow.Author.Tests.{eqb-true, eqb-false}
+use borrow.Author.Tests.{eqb-true, eqb-false, lt-ltb, le-ltb}
 use lib.Dec.{eqb, ltb, lit≤}
 use lib.ListN.{length}
 use Rattle.table.specs.Answers.{Answer, given, absent, unknown, refused, refuse, orRefused, firstOf, some, outside}
 use Rattle.table.specs.Pairs.{Pair, among, codesOf}
-use Rattle.table.specs.Words.{codeCount, cellCount, total, blockStart, blockEnd, blockMultiplier, cellCode, cellSchedule, blockOf, cellIn}
+use Rattle.table.specs.Words.{codeCount, cellCount, total}
 use Rattle.table.specs.TwoLevel.{wordsNeeded}
-use Rattle.table.specs.Lookup.{badSizes, inCell, inBlock, lookupOf}
-use Rattle.table.proofs.Laws.{within}
+use Rattle.table.specs.Lookup.{lookupOf}
 use Rattle.table.proofs.Refusals.{Refusal}
 use Rattle.panel.specs.Panel.{walkOf, panelOf}
 use Rattle.audit.specs.Check.{checkOf}
@@ -31,6 +31,7 @@ use Rattle.suppliers.specs.Lists.{faultyLine, readListOf, listText, writeListOf
 use Rattle.generator.specs.TestLoad.{generateOf}
 use Rattle.demands.specs.Answered.{ResultOr, LookupAnswer, PanelAnswer}
 use Rattle.demands.specs.Theorems.{checkAlone, checkValued, Answering}
+use Rattle.demands.proofs.Lookups.{Tells, lookup-tells}
 
 -- ---- results and refusals
 
@@ -206,100 +207,72 @@ generate-answers limit n codes schedules =
 
 -- ---- lookups
 
--- one test of a lookup before an answer
-lookup-test :
-    (fails : Bool) (number : ℕ) (rest : Answer) → 31 ≤ number → number ≤ 34 → (fails ≡ false → LookupAnswer rest)
-    → LookupAnswer (refuse fails number 0 rest)
-unfolding LookupAnswer
-lookup-test true number rest from to r = (from, to, refl)
-lookup-test false number rest from to r = r refl
-
--- absent, or an answer
-or-absent : (b : Bool) (rest : Answer) → LookupAnswer rest → LookupAnswer (cond b absent rest)
-unfolding LookupAnswer
-or-absent true rest r = tt
-or-absent false rest r = r
-
-absent-or : (b : Bool) (rest : Answer) → LookupAnswer rest → LookupAnswer (cond b rest absent)
-unfolding LookupAnswer
-absent-or true rest r = r
-absent-or false rest r = tt
-
-found : (s : ℕ) → outside 1 999 s ≡ false → LookupAnswer (given (s ∷ []))
-unfolding LookupAnswer
-found s inside = let r = within 1 999 s inside in (s, refl, r .0, r .1)
-
 module _ (p limit : ℕ) (words : List ℕ) (a : ℕ) where
-  cell-answers : (i : ℕ) → LookupAnswer (inCell words a i)
-  unfolding inCell
-  cell-answers i =
-      absent-or (eqb (cellCode words i) a) _
-      (lookup-test (outside 1 999 (cellSchedule words i)) 34 (given (cellSchedule words i ∷ [])) (lit≤ tt) (lit≤ tt) (found (cellSchedule words i)))
+  told-answers : (answer : Answer) → Tells p words a answer → LookupAnswer (cellCount words) answer
+  unfolding Tells LookupAnswer
+  told-answers (given values) r = (_, _, r .found, r .from-one, r .to-999, r .below)
+  told-answers absent r = tt
+  told-answers (unknown i) r = r
+  told-answers (refused number value) r = r
 
-  block-answers : (j : ℕ) → LookupAnswer (inBlock p words a j)
-  unfolding inBlock
-  block-answers j =
-      lookup-test (ltb (blockEnd words j) (blockStart words j)) 34 _ (lit≤ tt) (lit≤ tt)
-      (λ _.
-      lookup-test (ltb (cellCount words) (blockEnd words j)) 34 _ (lit≤ tt) (lit≤ tt)
-      (λ _.
-      or-absent (eqb (blockStart words j) (blockEnd words j)) _
-      (lookup-test (outside 1 (p - 1) (blockMultiplier words j)) 34 _ (lit≤ tt) (lit≤ tt) (λ _. cell-answers (cellIn p words j a)))))
-
-  lookup-answers : LookupAnswer (lookupOf p limit words a)
-  unfolding lookupOf
-  lookup-answers =
-      lookup-test (outside 1 (p - 1) a) 31 _ (lit≤ tt) (lit≤ tt)
-      (λ _.
-      lookup-test (ltb (length words) 3) 32 _ (lit≤ tt) (lit≤ tt)
-      (λ _.
-      lookup-test (badSizes p limit words) 33 _ (lit≤ tt) (lit≤ tt)
-      (λ _. or-absent (eqb (codeCount words) 0) _ (block-answers (blockOf p words a)))))
+  lookup-answers : LookupAnswer (cellCount words) (lookupOf p limit words a)
+  lookup-answers = told-answers (lookupOf p limit words a) (lookup-tells p words a limit)
 
 -- ---- panels
+
+-- the larger of two schedules has a cell, where the earlier one, if there was any, had one
+in-cells : (largest s at cell c : ℕ) → 1 ≤ s → at < c → (1 ≤ largest → cell < c) → cond (ltb largest s) at cell < c
+in-cells largest s at cell c from there before =
+    elim (decLt largest s) [ yes l ↦ rw (lt-ltb largest s l) there | no ge ↦ rw (le-ltb largest s (omega arith)) (before (omega arith)) ]
 
 module _ (p limit : ℕ) (words : List ℕ) (n : ℕ) where
   -- the code with index i, and what the codes after it answer
   walk-one :
-      (a : ℕ) (codes : List ℕ) (i largest : ℕ) → i < n → largest ≤ 999
-      → ((s : ℕ) → 1 ≤ s → s ≤ 999 → PanelAnswer n (walkOf p limit words codes (suc i) (max largest s)))
-      → (answer : Answer) → lookupOf p limit words a ≡ answer → LookupAnswer answer
-      → PanelAnswer n (walkOf p limit words (a ∷ codes) i largest)
+      (a : ℕ) (codes : List ℕ) (i largest cell : ℕ) → i < n
+      → ((s at : ℕ) → 1 ≤ s → s ≤ 999 → at < cellCount words
+      → PanelAnswer (cellCount words) n (walkOf p limit words codes (suc i) (max largest s) (cond (ltb largest s) at cell)))
+      → (answer : Answer) → lookupOf p limit words a ≡ answer → LookupAnswer (cellCount words) answer
+      → PanelAnswer (cellCount words) n (walkOf p limit words (a ∷ codes) i largest cell)
   unfolding walkOf PanelAnswer LookupAnswer
-  walk-one a codes i largest at low later (given values) e (s, one, from, to) = rw (e ∙ ap given one, walkOf) (later s from to)
-  walk-one a codes i largest at low later absent e r = rw (e, walkOf, PanelAnswer) at
-  walk-one a codes i largest at low later (unknown j) e r = absurd r
-  walk-one a codes i largest at low later (refused number value) e (from, to, none) = rw (e, walkOf, PanelAnswer) (inl (from, to, at))
+  walk-one a codes i largest cell at later (given values) e (s, there, one, from, to, below) =
+      rw (e ∙ ap given one, walkOf) (later s there from to below)
+  walk-one a codes i largest cell at later absent e r = rw (e, walkOf, PanelAnswer) at
+  walk-one a codes i largest cell at later (unknown j) e r = absurd r
+  walk-one a codes i largest cell at later (refused number value) e (from, to, none) = rw (e, walkOf, PanelAnswer) (inl (from, to, at))
 
   -- from index i on, with a schedule before it or a code to come
   walk-answers :
-      (codes : List ℕ) (i largest : ℕ) → i + length codes ≡ n → largest ≤ 999 → 1 ≤ largest + length codes
-      → PanelAnswer n (walkOf p limit words codes i largest)
+      (codes : List ℕ) (i largest cell : ℕ) → i + length codes ≡ n → largest ≤ 999 → (1 ≤ largest → cell < cellCount words)
+      → 1 ≤ largest + length codes → PanelAnswer (cellCount words) n (walkOf p limit words codes i largest cell)
   unfolding walkOf PanelAnswer
-  walk-answers [] i largest at low some = (largest, refl, omega arith, low)
-  walk-answers (a ∷ codes) i largest at low some =
-      walk-one a codes i largest (omega arith) low
-      (λ s from to. walk-answers codes (suc i) (max largest s) (omega arith) (max-le low to) (omega (arith, le-max-right largest s)))
+  walk-answers [] i largest cell at low below some = (largest, cell, refl, omega arith, low, below (omega arith))
+  walk-answers (a ∷ codes) i largest cell at low below some =
+      walk-one a codes i largest cell (omega arith)
+      (λ s there from to within.
+      walk-answers codes (suc i) (max largest s) (cond (ltb largest s) there cell) (omega arith) (max-le low to)
+      (λ _. in-cells largest s there cell (cellCount words) from within below)
+      (omega (arith, le-max-right largest s)))
       (lookupOf p limit words a)
       refl
       (lookup-answers p limit words a)
 
 -- 35 or 36 before an answer
 panel-test :
-    (n : ℕ) (fails : Bool) (number : ℕ) (rest : Answer) → 35 ≤ number → number ≤ 36 → (fails ≡ false → PanelAnswer n rest)
-    → PanelAnswer n (refuse fails number 0 rest)
+    (c n : ℕ) (fails : Bool) (number : ℕ) (rest : Answer) → 35 ≤ number → number ≤ 36 → (fails ≡ false → PanelAnswer c n rest)
+    → PanelAnswer c n (refuse fails number 0 rest)
 unfolding PanelAnswer
-panel-test n true number rest from to r = inr (from, to, refl)
-panel-test n false number rest from to r = r refl
+panel-test c n true number rest from to r = inr (from, to, refl)
+panel-test c n false number rest from to r = r refl
 
-panel-answers : (p limit : ℕ) (words codes : List ℕ) → PanelAnswer (length codes) (panelOf p limit words codes)
+panel-answers : (p limit : ℕ) (words codes : List ℕ) → PanelAnswer (cellCount words) (length codes) (panelOf p limit words codes)
 unfolding panelOf
 panel-answers p limit words codes =
-    panel-test (length codes) (eqb (length codes) 0) 35 _ (lit≤ tt) (lit≤ tt)
+    let c = cellCount words in
+    panel-test c (length codes) (eqb (length codes) 0) 35 _ (lit≤ tt) (lit≤ tt)
     (λ some.
     let codes-there : length codes ≡ 0 → ⊥ = eqb-false (length codes) 0 some in
-    panel-test (length codes) (ltb 64 (length codes)) 36 _ (lit≤ tt) (lit≤ tt)
-    (λ few. walk-answers p limit words (length codes) codes 0 0 (omega arith) (omega arith) (omega arith)))
+    panel-test c (length codes) (ltb 64 (length codes)) 36 _ (lit≤ tt) (lit≤ tt)
+    (λ few. walk-answers p limit words (length codes) codes 0 0 0 (omega arith) (omega arith) (λ one. absurd (omega arith)) (omega arith)))
 
 pub answering : Answering
 unfolding among Check.tests Check.first-refusal

@@ -44,7 +44,7 @@ module _ (codes schedules : List ℕ) (valid : Valid 65537 2048 codes schedules)
     wf : WellFormed 65537 2048 words
     wf = well-formed prime-65537 codes schedules valid words t
 
-    right : (a : ℕ) → 1 ≤ a → a ≤ 65536 → lookupOf 65537 2048 words a ≡ rightAnswer codes schedules a
+    right : (a : ℕ) → 1 ≤ a → a ≤ 65536 → lookupOf 65537 2048 words a ≡ rightAnswer codes schedules words a
     right a from to = lookup-right prime-65537 codes schedules valid words t a from (omega arith)
 
     accept : Accepted words
@@ -52,17 +52,17 @@ module _ (codes schedules : List ℕ) (valid : Valid 65537 2048 codes schedules)
 
     read : (a s : ℕ) → Listed (codesOf (pairsIn words)) (schedulesOf (pairsIn words)) a s → Listed codes schedules a s
     read a s l =
-        let found : lookupOf 65537 2048 words a ≡ given (s ∷ []) = reading .pairs-exactly words accept a s .1 l in
-        let range = lookup-range 65537 2048 words a (s ∷ []) (omega arith) found in
-        right-exactly codes schedules a s (valid .parallel) (valid .codes-valid .different) .0
-        (sym (right a (range .0) (omega (arith, range .1))) ∙ found)
+        let (i, found) = reading .pairs-exactly words accept a s .1 l in
+        let range = lookup-range 65537 2048 words a _ (omega arith) found in
+        right-exactly codes schedules words a s (valid .parallel) (valid .codes-valid .different) .0
+        (i, sym (right a (range .0) (omega (arith, range .1))) ∙ found)
 
     unread : (a s : ℕ) → Listed codes schedules a s → Listed (codesOf (pairsIn words)) (schedulesOf (pairsIn words)) a s
     unread a s l =
         let from : 1 ≤ a = omega (arith, l .code-there, valid .codes-valid .positive (l .index) (l .in-list)) in
         let to : a ≤ 65536 = omega (arith, l .code-there, valid .codes-valid .below (l .index) (l .in-list)) in
-        reading .pairs-exactly words accept a s .0
-        (right a from to ∙ right-exactly codes schedules a s (valid .parallel) (valid .codes-valid .different) .1 l)
+        let (i, found) = right-exactly codes schedules words a s (valid .parallel) (valid .codes-valid .different) .1 l in
+        reading .pairs-exactly words accept a s .0 (i, right a from to ∙ found)
 
   -- the words of the table alone are the two-level table
   own : TwoLevelTable codes schedules (tableOf 65537 codes schedules)

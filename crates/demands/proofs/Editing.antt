@@ -28,8 +28,8 @@ use Rattle.editor.specs.code.Editing.{InRange}
 use Rattle.editor.proofs.Others.{without-mem, mem-without, without-codes, with-codes}
 use Rattle.editor.proofs.Edits.{left-le, left-found, present-is, full-is, with-few, without-few}
 use Rattle.lists.specs.Valid.{Valid}
-use Rattle.demands.specs.Lists.{Listed, rightAnswer}
-use Rattle.demands.specs.Answered.{readAs}
+use Rattle.demands.specs.Lists.{Listed, FoundWith, rightAnswer}
+use Rattle.demands.specs.Answered.{scheduleAlone, readAs}
 use Rattle.demands.specs.Theorems.{Accepted, Rebuilds, MayPutIn, MayTakeOut, Editing}
 use Rattle.demands.proofs.Reading.{mem-listed, listed-mem, pairs-valid, reading}
 use Rattle.demands.proofs.RightAnswer.{right-cases, right-exactly}
@@ -41,13 +41,13 @@ use Rattle.demands.proofs.Building.{building}
 
 module _ {p limit : ℕ} {words : List ℕ} (f : WellFormed p limit words) (code a s : ℕ) where
   abbrev Other : Type 0
-  Other = (a ≡ code → ⊥) × (lookupOf p limit words a ≡ given (s ∷ []))
+  Other = (a ≡ code → ⊥) × FoundWith p limit words a s
 
   left-other : List·Memᴰ (record { code = a; schedule = s }) (without code (pairsIn words)) → Other
   left-other m = let (there, other) = without-mem code (pairsIn words) m in (other, pairs-found f there)
 
   other-left : Other → List·Memᴰ (record { code = a; schedule = s }) (without code (pairsIn words))
-  other-left (other, found) = mem-without code (pairsIn words) (found-pairs f found) other
+  other-left (other, (i, found)) = mem-without code (pairsIn words) (found-pairs f i found) other
 
   without-exactly :
       Listed (codesOf (without code (pairsIn words))) (schedulesOf (without code (pairsIn words))) a s ↔ Other
@@ -139,12 +139,12 @@ module _ (words : List ℕ) (accept : Accepted words) (code : ℕ) where
       pairs-valid (without code (pairsIn words)) (without-few wf code) (without-codes code (pairsIn words) (pairs-codes wf))
       (λ r m. pair-schedule wf (without-mem code (pairsIn words) m .0))
 
-  module _ (s : ℕ) (found : lookupOf 65537 2048 words code ≡ given (s ∷ [])) where
+  module _ (s i : ℕ) (found : lookupOf 65537 2048 words code ≡ given (s ∷ i ∷ [])) where
     found-range : (1 ≤ code) × (code < 65537)
-    found-range = lookup-range 65537 2048 words code (s ∷ []) (lit≤ tt) found
+    found-range = lookup-range 65537 2048 words code (s ∷ i ∷ []) (lit≤ tt) found
 
     found-present : present words code ≡ true
-    found-present = present-is wf code ∙ lt-ltb left (codeCount words) (omega (arith, left-found wf code s found))
+    found-present = present-is wf code ∙ lt-ltb left (codeCount words) (omega (arith, left-found wf code s i found))
 
     removes : (second : List ℕ) → removeOf 65537 2048 words code (length second) ≡ rebuilt 65537 (without code (pairsIn words)) (length second)
     unfolding removeOf
@@ -182,9 +182,9 @@ module _ (words : List ℕ) (accept : Accepted words) (code : ℕ) where
         )
 
   -- a code that is there, or a table that is not full
-  has-room : (codeCount words < 2048) ⊎ ((s : ℕ) × (lookupOf 65537 2048 words code ≡ given (s ∷ []))) → left ≡ 2048 → ⊥
+  has-room : (codeCount words < 2048) ⊎ ((s : ℕ) × FoundWith 65537 2048 words code s) → left ≡ 2048 → ⊥
   has-room (inl few) e = omega (arith, left-le wf code)
-  has-room (inr (s, found)) e = omega (arith, left-found wf code s found, wf .few-codes)
+  has-room (inr (s, (i, found))) e = omega (arith, left-found wf code s i found, wf .few-codes)
 
 put-in :
     (words : List ℕ) (code schedule : ℕ) (second : List ℕ) (answer : Answer) (second′ : List ℕ) → MayPutIn words code schedule
@@ -208,12 +208,12 @@ take-out :
     (words : List ℕ) (code : ℕ) (second : List ℕ) (answer : Answer) (second′ : List ℕ) → MayTakeOut words code
     → Removed 65537 2048 words code second answer second′ → Rebuilds (without code (pairsIn words)) second answer second′
 take-out words code second answer second′ may done =
-    let (s, found) = may .there in
+    let (s, (i, found)) = may .there in
     rebuilds (without code (pairsIn words))
     (without-valid words (may .accepted) code)
     second
     _
-    (removes words (may .accepted) code s found second)
+    (removes words (may .accepted) code s i found second)
     (done .answers)
     (done .second-at-exit)
 
@@ -242,7 +242,7 @@ module _
         (room-told (ltb (length second) (wordsNeeded 65537 codes)) (wordsNeeded 65537 codes) total
         (done .answers ∙ ap (readAs 6 54) (build-answer codes schedules (done .valid) (length second))))
 
-    new-right : lookupOf 65537 2048 second′ a ≡ rightAnswer codes schedules a
+    new-right : lookupOf 65537 2048 second′ a ≡ rightAnswer codes schedules second′ a
     new-right =
         building .tables codes schedules (done .valid) .lookup-right second′
         (ap (take (wordsNeeded 65537 codes)) (done .second-at-exit) ∙ built-table codes schedules (done .valid) second new-room)
@@ -252,16 +252,18 @@ module _
 
     -- by whether the code is the one that is changed
     new-lookup :
-        (words : List ℕ) → Accepted words → (code : ℕ) (here : Answer) → (a ≡ code → rightAnswer codes schedules a ≡ here)
-        → ((a ≡ code → ⊥) → (s : ℕ) → Listed codes schedules a s ↔ (lookupOf 65537 2048 words a ≡ given (s ∷ [])))
-        → lookupOf 65537 2048 second′ a ≡ cond (eqb a code) here (lookupOf 65537 2048 words a)
+        (words : List ℕ) → Accepted words → (code : ℕ) (here : Answer) → (a ≡ code → scheduleAlone (rightAnswer codes schedules second′ a) ≡ here)
+        → ((a ≡ code → ⊥) → (s : ℕ) → Listed codes schedules a s ↔ FoundWith 65537 2048 words a s)
+        → scheduleAlone (lookupOf 65537 2048 second′ a) ≡ cond (eqb a code) here (scheduleAlone (lookupOf 65537 2048 words a))
     new-lookup words accept code here same other =
-        new-right
+        ap scheduleAlone new-right
         ∙ elim (ℕ-discrete a code) [
           | yes e ↦ same e ∙ sym (rw (eq-eqb a code e))
           | no ne ↦
-              elim (right-cases codes schedules a (done .valid .parallel)) [
-                | inl r ↦ r .answer ∙ sym (other ne (r .schedule) .0 (r .listed)) ∙ sym (rw (ne-eqb a code ne))
+              elim (right-cases codes schedules second′ a (done .valid .parallel)) [
+                | inl r ↦
+                    let (i, found) = other ne (r .schedule) .0 (r .listed) in
+                    ap scheduleAlone (r .answer) ∙ sym (ap scheduleAlone found) ∙ sym (rw (ne-eqb a code ne))
                 | inr r ↦
                     let gone : lookupOf 65537 2048 words a ≡ absent =
                     elim (reading .found-or-absent words accept a from to) [
@@ -270,7 +272,7 @@ module _
                           absurd (r .nowhere (l .index) (l .in-list) (l .code-there))
                       | inr e ↦ e
                     ] in
-                    r .answer ∙ sym gone ∙ sym (rw (ne-eqb a code ne))
+                    ap scheduleAlone (r .answer ∙ sym gone) ∙ sym (rw (ne-eqb a code ne))
               ]
         ]
 
@@ -278,15 +280,17 @@ put-in-lookup :
     (words : List ℕ) (code schedule : ℕ) (second : List ℕ) (total : ℕ) (second′ : List ℕ) → MayPutIn words code schedule
     → Inserted 65537 2048 words code schedule second (given (total ∷ [])) second′
     → (a : ℕ) → 1 ≤ a → a ≤ 65536
-    → lookupOf 65537 2048 second′ a ≡ cond (eqb a code) (given (schedule ∷ [])) (lookupOf 65537 2048 words a)
+    → scheduleAlone (lookupOf 65537 2048 second′ a)
+    ≡ cond (eqb a code) (given (schedule ∷ [])) (scheduleAlone (lookupOf 65537 2048 words a))
 put-in-lookup words code schedule second total second′ may done a from to =
     let changed : List Pair = withPair code schedule (pairsIn words) in
     let new = put-in words code schedule second _ second′ may done in
     let f = wf words (may .accepted) code in
     new-lookup changed second total second′ new a from to words (may .accepted) code (given (schedule ∷ []))
     (λ e.
-    right-exactly (codesOf changed) (schedulesOf changed) a schedule (new .valid .parallel) (new .valid .codes-valid .different) .1
-    (with-exactly f code a schedule schedule .1 (inl (e, refl))))
+    let (i, found) = right-exactly (codesOf changed) (schedulesOf changed) second′ a schedule (new .valid .parallel) (new .valid .codes-valid .different) .1
+    (with-exactly f code a schedule schedule .1 (inl (e, refl))) in
+    ap scheduleAlone found)
     (λ ne s. (
       λ l. ⊎-elim (λ (e, g). absurd (ne e)) (λ (other, found). found) (with-exactly f code a s schedule .0 l),
       λ found. with-exactly f code a s schedule .1 (inr (ne, found)),
@@ -295,16 +299,17 @@ put-in-lookup words code schedule second total second′ may done a from to =
 take-out-lookup :
     (words : List ℕ) (code : ℕ) (second : List ℕ) (total : ℕ) (second′ : List ℕ) → MayTakeOut words code
     → Removed 65537 2048 words code second (given (total ∷ [])) second′
-    → (a : ℕ) → 1 ≤ a → a ≤ 65536 → lookupOf 65537 2048 second′ a ≡ cond (eqb a code) absent (lookupOf 65537 2048 words a)
+    → (a : ℕ) → 1 ≤ a → a ≤ 65536
+    → scheduleAlone (lookupOf 65537 2048 second′ a) ≡ cond (eqb a code) absent (scheduleAlone (lookupOf 65537 2048 words a))
 take-out-lookup words code second total second′ may done a from to =
     let changed : List Pair = without code (pairsIn words) in
     let new = take-out words code second _ second′ may done in
     let f = wf words (may .accepted) code in
     new-lookup changed second total second′ new a from to words (may .accepted) code absent
     (λ e.
-    elim (right-cases (codesOf changed) (schedulesOf changed) a (new .valid .parallel)) [
+    elim (right-cases (codesOf changed) (schedulesOf changed) second′ a (new .valid .parallel)) [
       | inl r ↦ absurd (without-exactly f code a (r .schedule) .0 (r .listed) .0 e)
-      | inr r ↦ r .answer
+      | inr r ↦ ap scheduleAlone (r .answer)
     ])
     (λ ne s. (λ l. without-exactly f code a s .0 l .1, λ found. without-exactly f code a s .1 (ne, found)))
 

@@ -13,7 +13,10 @@ pub mod BuildingBuild
 pub mod BuildingOrder
 pub mod Building
 pub mod Editing
+pub mod Lookups
+pub mod Panels
 pub mod Answering
+pub mod Cells
 pub mod Keeping
 pub mod TextsWritten
 pub mod Made

@@ -20,7 +20,7 @@ use Rattle.audit.proofs.WellFormed.{check-exactly}
 use Rattle.reader.proofs.PairLaws as Pairs
 use Rattle.lists.specs.Valid.{Valid}
 use Rattle.editor.proofs.Reordered.{codes-long, same-long, pair-at, at-pair}
-use Rattle.demands.specs.Lists.{Listed}
+use Rattle.demands.specs.Lists.{Listed, FoundWith}
 use Rattle.demands.specs.Theorems.{Reading}
 use Rattle.demands.proofs.RightAnswer.{right-cases}
 use Rattle.demands.proofs.Settle.{lookedAt-eight, settle}
@@ -56,9 +56,8 @@ module _ {p limit : ℕ} {words : List ℕ} (f : WellFormed p limit words) where
   pairs-number = codes-long (pairsIn words) ∙ Pairs.pairs-length f
 
   pub pairs-exactly :
-      (a s : ℕ)
-      → (lookupOf p limit words a ≡ given (s ∷ [])) ↔ Listed (codesOf (pairsIn words)) (schedulesOf (pairsIn words)) a s
-  pairs-exactly a s = (λ e. mem-listed (Pairs.found-pairs f e), λ l. Pairs.pairs-found f (listed-mem (pairsIn words) l))
+      (a s : ℕ) → FoundWith p limit words a s ↔ Listed (codesOf (pairsIn words)) (schedulesOf (pairsIn words)) a s
+  pairs-exactly a s = (λ (i, e). mem-listed (Pairs.found-pairs f i e), λ l. Pairs.pairs-found f (listed-mem (pairsIn words) l))
 
   -- so they can be built from again
   pub table-valid : Valid p limit (codesOf (pairsIn words)) (schedulesOf (pairsIn words))
@@ -67,15 +66,15 @@ module _ {p limit : ℕ} {words : List ℕ} (f : WellFormed p limit words) where
 -- a code in range that no pair has is absent
 pub found-or-absent :
     {p limit : ℕ} {words : List ℕ} → WellFormed p limit words → (a : ℕ) → 1 ≤ a → a < p
-    → ((s : ℕ) × (lookupOf p limit words a ≡ given (s ∷ []))) ⊎ (lookupOf p limit words a ≡ absent)
+    → ((s : ℕ) × FoundWith p limit words a s) ⊎ (lookupOf p limit words a ≡ absent)
 found-or-absent {words = words} f a from below =
-    elim (right-cases (codesOf (pairsIn words)) (schedulesOf (pairsIn words)) a (table-valid f .parallel)) [
+    elim (right-cases (codesOf (pairsIn words)) (schedulesOf (pairsIn words)) words a (table-valid f .parallel)) [
       | inl r ↦ inl (r .schedule, pairs-exactly f a (r .schedule) .1 (r .listed))
       | inr r ↦
           inr
           (lookup-absent f a from below
           (λ i l e.
-          let there = pairs-exactly f a (cellSchedule words i) .0 (lookup-found f a from below i l e) in
+          let there = pairs-exactly f a (cellSchedule words i) .0 (i, lookup-found f a from below i l e) in
           r .nowhere (there .index) (there .in-list) (there .code-there)))
     ]
 

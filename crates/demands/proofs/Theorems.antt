@@ -1,5 +1,5 @@
 -- Every record of specs/Theorems.antt, by its proof.
-use Rattle.demands.specs.Theorems.{Answering, Keeping, Exporting, Reading, Building, Editing, Texts, TestLoads, Files}
+use Rattle.demands.specs.Theorems.{Answering, Keeping, Exporting, Reading, Building, Editing, Texts, TestLoads, Files, Cells}
 use Rattle.demands.proofs.Answering as on-answers
 use Rattle.demands.proofs.Keeping as on-refusals
 use Rattle.demands.proofs.Reading as on-reading
@@ -8,6 +8,7 @@ use Rattle.demands.proofs.Editing as on-editing
 use Rattle.demands.proofs.Texts as on-texts
 use Rattle.demands.proofs.TestLoads as on-test-loads
 use Rattle.demands.proofs.Files as on-files
+use Rattle.demands.proofs.Cells as on-cells
 
 -- demand 1: what each operation answers, and that a refusal keeps lent memory
 pub answering : Answering
@@ -42,3 +43,7 @@ test-loads = on-test-loads.test-loads
 -- table files
 pub files : Files
 files = on-files.files
+
+-- where the glass lies
+pub cells : Cells
+cells = on-cells.cells

@@ -5,6 +5,7 @@ use mathlib.Core.List.{List, [], _∷_}
 use mathlib.Core.Logic.{_⊎_}
 use mathlib.Core.Path.{_≡_}
 use lib.Dec.{eqb}
+use lib.ListN.{take}
 use Rattle.table.specs.Answers.{Answer, given, absent, unknown, refused, over}
 use Rattle.table.specs.Pairs.{among}
 
@@ -21,23 +22,23 @@ ResultOr result with-zero with-value (unknown i) = ⊥
 ResultOr result with-zero with-value (refused number value) =
     ((among number with-zero ≡ true) × (value ≡ 0)) ⊎ (among number with-value ≡ true)
 
--- one schedule, from 1 to 999
-abbrev pub OneSchedule : List ℕ → Type 0
-OneSchedule values = (s : ℕ) × (values ≡ s ∷ []) × (1 ≤ s) × (s ≤ 999)
+-- one schedule, from 1 to 999, and its cell, of c
+abbrev pub InCell : ℕ → List ℕ → Type 0
+InCell c values = (s : ℕ) × (i : ℕ) × (values ≡ s ∷ i ∷ []) × (1 ≤ s) × (s ≤ 999) × (i < c)
 
--- the answers of a lookup: found with a schedule, absent, or 31 to 34 with 0
-unfoldable pub LookupAnswer : Answer → Type 0
-LookupAnswer (given values) = OneSchedule values
-LookupAnswer absent = Unit {0}
-LookupAnswer (unknown i) = ⊥
-LookupAnswer (refused number value) = (31 ≤ number) × (number ≤ 34) × (value ≡ 0)
+-- the answers of a lookup in a table of c cells: found with a schedule, absent, or 31 to 34 with 0
+unfoldable pub LookupAnswer : ℕ → Answer → Type 0
+LookupAnswer c (given values) = InCell c values
+LookupAnswer c absent = Unit {0}
+LookupAnswer c (unknown i) = ⊥
+LookupAnswer c (refused number value) = (31 ≤ number) × (number ≤ 34) × (value ≡ 0)
 
 -- the answers of a panel of n codes: a schedule, unknown with an index, 31 to 34 with an index, or 35 and 36 with 0
-unfoldable pub PanelAnswer : ℕ → Answer → Type 0
-PanelAnswer n (given values) = OneSchedule values
-PanelAnswer n absent = ⊥
-PanelAnswer n (unknown i) = i < n
-PanelAnswer n (refused number value) =
+unfoldable pub PanelAnswer : ℕ → ℕ → Answer → Type 0
+PanelAnswer c n (given values) = InCell c values
+PanelAnswer c n absent = ⊥
+PanelAnswer c n (unknown i) = i < n
+PanelAnswer c n (refused number value) =
     ((31 ≤ number) × (number ≤ 34) × (value < n)) ⊎ ((35 ≤ number) × (number ≤ 36) × (value ≡ 0))
 
 -- what C sees of a call that fills lent memory, by the number and the value shown: with 0 this value, and the memory filled; with any other number the
@@ -45,6 +46,13 @@ PanelAnswer n (refused number value) =
 abbrev pub FilledOrKept : ℕ → ℕ → ℕ → List ℕ → List ℕ → List ℕ → Type 0
 FilledOrKept number shown value new old old′ =
     (number ≡ 0 → (shown ≡ value) × (old′ ≡ over new old)) × ((number ≡ 0 → ⊥) → old′ ≡ old)
+
+-- what an answer says of the schedule: a result without its cell
+abbrev pub scheduleAlone : Answer → Answer
+scheduleAlone (given values) = given (take 1 values)
+scheduleAlone absent = absent
+scheduleAlone (unknown i) = unknown i
+scheduleAlone (refused number value) = refused number value
 
 -- an answer with one refusal's number read as another
 unfoldable pub readAs : ℕ → ℕ → Answer → Answer

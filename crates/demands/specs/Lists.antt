@@ -5,9 +5,10 @@ use mathlib.Core.List.{List, [], _∷_, _++_}
 use mathlib.Core.Path.{_≡_}
 use lib.Dec.{eqb, ltb}
 use lib.ListN.{length, getD}
-use Rattle.table.specs.Answers.{Answer, given, absent}
+use Rattle.table.specs.Answers.{Answer, given, absent, firstOf}
 use Rattle.table.specs.Pairs.{among, paired, valueWhere}
-use Rattle.table.specs.Words.{codeCount, cellCount, blockStart, blockEnd, blockOf, ownCell}
+use Rattle.table.specs.Words.{codeCount, cellCount, blockStart, blockEnd, cellCode, blockOf, ownCell}
+use Rattle.table.specs.Lookup.{lookupOf}
 
 -- a pair stands in a list
 pub record Listed (codes schedules : List ℕ) (a s : ℕ) : Type 0 where
@@ -21,10 +22,20 @@ pub record SamePairs (codes schedules codes′ schedules′ : List ℕ) : Type 0
   pub there : (a s : ℕ) → Listed codes schedules a s → Listed codes′ schedules′ a s
   pub back : (a s : ℕ) → Listed codes′ schedules′ a s → Listed codes schedules a s
 
--- the right answer to a code: found with its listed schedule if it is listed, otherwise absent
-unfoldable pub rightAnswer : List ℕ → List ℕ → ℕ → Answer
-unfolding among paired valueWhere
-rightAnswer codes schedules a = cond (among a codes) (given (valueWhere (eqb a) (paired codes schedules) ∷ [])) absent
+-- a lookup finds the code with this schedule, in some cell
+abbrev pub FoundWith : ℕ → ℕ → List ℕ → ℕ → ℕ → Type 0
+FoundWith p limit words a s = (i : ℕ) × (lookupOf p limit words a ≡ given (s ∷ i ∷ []))
+
+-- the cell of a table whose code it is: the first, where there are several
+unfoldable pub cellWith : List ℕ → ℕ → ℕ
+unfolding firstOf
+cellWith words a = firstOf (cellCount words) (λ i. eqb (cellCode words i) a)
+
+-- the right answer to a code, in the table of a list: found with its listed schedule, in the cell whose code it is, if it is listed; otherwise absent
+unfoldable pub rightAnswer : List ℕ → List ℕ → List ℕ → ℕ → Answer
+unfolding among paired valueWhere cellWith
+rightAnswer codes schedules words a =
+    cond (among a codes) (given (valueWhere (eqb a) (paired codes schedules) ∷ cellWith words a ∷ [])) absent
 
 -- words that are enough for any list of n pairs: 8n - 1, and 3 for none
 unfoldable pub enough : ℕ → ℕ

@@ -30,8 +30,8 @@ use Rattle.maker.specs.Making.{madeOf}
 use Rattle.generator.specs.TestLoad.{testCode, testCodes, testSchedules, generateOf, LoadGenerated}
 use Rattle.glass_c.specs.Exports.{BuildShown, PairsShown, InsertShown, RemoveShown, ReadListShown, WriteListShown, GenerateShown}
 use Rattle.lists.specs.Valid.{Valid}
-use Rattle.demands.specs.Lists.{Listed, SamePairs, rightAnswer, enough, AgreeAt, lookedAt, AllWords, AllBytes}
-use Rattle.demands.specs.Answered.{IsRefusal, ResultOr, LookupAnswer, PanelAnswer, FilledOrKept, readAs}
+use Rattle.demands.specs.Lists.{Listed, SamePairs, FoundWith, rightAnswer, enough, AgreeAt, lookedAt, AllWords, AllBytes}
+use Rattle.demands.specs.Answered.{IsRefusal, ResultOr, LookupAnswer, PanelAnswer, FilledOrKept, scheduleAlone, readAs}
 
 -- the refusals of a check: those that come with 0, and the others
 abbrev pub checkAlone : List ℕ
@@ -49,10 +49,10 @@ pub record Answering : Type 0 where
   -- check: n and the total, or 11 to 21
   pub check :
       (words : List ℕ) → ResultOr (codeCount words ∷ total words ∷ []) checkAlone checkValued (checkOf 65537 2048 words)
-  -- look up: found with a schedule from 1 to 999, absent, or 31 to 34 with 0
-  pub lookup : (words : List ℕ) (a : ℕ) → LookupAnswer (lookupOf 65537 2048 words a)
-  -- panel: a schedule from 1 to 999, unknown or 31 to 34 with an index, or 35 and 36
-  pub panel : (words codes : List ℕ) → PanelAnswer (length codes) (panelOf 65537 2048 words codes)
+  -- look up: found with a schedule from 1 to 999 and a cell below c, absent, or 31 to 34 with 0
+  pub lookup : (words : List ℕ) (a : ℕ) → LookupAnswer (cellCount words) (lookupOf 65537 2048 words a)
+  -- panel: a schedule from 1 to 999 and a cell below c, unknown or 31 to 34 with an index, or 35 and 36
+  pub panel : (words codes : List ℕ) → PanelAnswer (cellCount words) (length codes) (panelOf 65537 2048 words codes)
   -- read back: n, a refusal of the check, or 41
   pub pairs :
       (words codes schedules : List ℕ)
@@ -170,12 +170,12 @@ pub record Reading : Type 0 where
   -- they are exactly the codes found in it, with their schedules
   pub pairs-exactly :
       (words : List ℕ) → Accepted words → (a s : ℕ)
-      → (lookupOf 65537 2048 words a ≡ given (s ∷ [])) ↔ Listed (codesOf (pairsIn words)) (schedulesOf (pairsIn words)) a s
+      → FoundWith 65537 2048 words a s ↔ Listed (codesOf (pairsIn words)) (schedulesOf (pairsIn words)) a s
   -- and every other code from 1 to 65,536 is absent
   pub found-or-absent :
       (words : List ℕ) → Accepted words → (a : ℕ) → 1 ≤ a → a ≤ 65536
-      → ((s : ℕ) × (lookupOf 65537 2048 words a ≡ given (s ∷ []))) ⊎ (lookupOf 65537 2048 words a ≡ absent)
-  -- of any words at most eight settle the answer to a code: any others of that length that agree there give the same answer
+      → ((s : ℕ) × FoundWith 65537 2048 words a s) ⊎ (lookupOf 65537 2048 words a ≡ absent)
+  -- of any words at most eight settle the answer to a code: any others of that length that agree there give the same answer, its cell included
   pub eight-at-most : (words : List ℕ) (a : ℕ) → length (lookedAt 65537 words a) ≤ 8
   pub eight-settle :
       (words other : List ℕ) (a : ℕ) → length other ≡ length words → AgreeAt (lookedAt 65537 words a) words other
@@ -228,10 +228,10 @@ pub record TableOfList (codes schedules : List ℕ) : Type 0 where
   pub total-is :
       (words : List ℕ) → BeginsWithTable codes schedules words
       → wordsNeeded 65537 codes ≡ 3 + 2 * length codes + 2 * cellCount words
-  -- a code from 1 to 65,536 is found with its listed schedule, or absent, whatever words follow the table
+  -- a code from 1 to 65,536 is found with its listed schedule in its cell, or absent, whatever words follow the table
   pub lookup-right :
       (words : List ℕ) → BeginsWithTable codes schedules words
-      → (a : ℕ) → 1 ≤ a → a ≤ 65536 → lookupOf 65537 2048 words a ≡ rightAnswer codes schedules a
+      → (a : ℕ) → 1 ≤ a → a ≤ 65536 → lookupOf 65537 2048 words a ≡ rightAnswer codes schedules words a
   -- the check accepts it
   pub accepted : (words : List ℕ) → BeginsWithTable codes schedules words → Accepted words
   -- reading it back gives the pairs of the list
@@ -246,7 +246,7 @@ pub record Settled (codes schedules built : List ℕ) (a : ℕ) : Type 0 where
   pub of-table : (i : ℕ) → i < length positions → getD positions i 0 < wordsNeeded 65537 codes
   pub settle :
       (other : List ℕ) → length other ≡ length built → AgreeAt positions built other
-      → lookupOf 65537 2048 other a ≡ rightAnswer codes schedules a
+      → lookupOf 65537 2048 other a ≡ rightAnswer codes schedules built a
 
 -- Demand 3, for one list and one run of lent words that is long enough
 pub record BuiltFrom (codes schedules words : List ℕ) : Type 0 where
@@ -296,24 +296,24 @@ pub record MayPutIn (words : List ℕ) (code schedule : ℕ) : Type 0 where
   pub code-range : (1 ≤ code) × (code ≤ 65536)
   pub schedule-range : (1 ≤ schedule) × (schedule ≤ 999)
   pub accepted : Accepted words
-  pub room : (codeCount words < 2048) ⊎ ((s : ℕ) × (lookupOf 65537 2048 words code ≡ given (s ∷ [])))
+  pub room : (codeCount words < 2048) ⊎ ((s : ℕ) × FoundWith 65537 2048 words code s)
 
 -- none of 51, the check's refusals and 55 holds
 pub record MayTakeOut (words : List ℕ) (code : ℕ) : Type 0 where
   pub accepted : Accepted words
-  pub there : (s : ℕ) × (lookupOf 65537 2048 words code ≡ given (s ∷ []))
+  pub there : (s : ℕ) × FoundWith 65537 2048 words code s
 
 pub record Editing : Type 0 where
   -- the changed list of put in: the new pair, and every pair of another code that the old table has
   pub put-in-list :
       (words : List ℕ) → Accepted words → (code schedule a s : ℕ)
       → Listed (codesOf (withPair code schedule (pairsIn words))) (schedulesOf (withPair code schedule (pairsIn words))) a s
-      ↔ (((a ≡ code) × (s ≡ schedule)) ⊎ ((a ≡ code → ⊥) × (lookupOf 65537 2048 words a ≡ given (s ∷ []))))
+      ↔ (((a ≡ code) × (s ≡ schedule)) ⊎ ((a ≡ code → ⊥) × FoundWith 65537 2048 words a s))
   -- the changed list of take out: every pair of another code that the old table has
   pub take-out-list :
       (words : List ℕ) → Accepted words → (code a s : ℕ)
       → Listed (codesOf (without code (pairsIn words))) (schedulesOf (without code (pairsIn words))) a s
-      ↔ ((a ≡ code → ⊥) × (lookupOf 65537 2048 words a ≡ given (s ∷ [])))
+      ↔ ((a ≡ code → ⊥) × FoundWith 65537 2048 words a s)
   -- put in, where none of 51, 52, the check's refusals and 53 holds
   pub put-in :
       (words : List ℕ) (code schedule : ℕ) (second : List ℕ) (answer : Answer) (second′ : List ℕ)
@@ -324,17 +324,18 @@ pub record Editing : Type 0 where
       (words : List ℕ) (code : ℕ) (second : List ℕ) (answer : Answer) (second′ : List ℕ)
       → MayTakeOut words code → Removed 65537 2048 words code second answer second′
       → Rebuilds (without code (pairsIn words)) second answer second′
-  -- in the new table the code has the new schedule, or is absent, and every other code is found as in the old one
+  -- in the new table the code has the new schedule, or is absent, and every other code has the schedule of the old one, or is absent as there
   pub put-in-lookup :
       (words : List ℕ) (code schedule : ℕ) (second : List ℕ) (total : ℕ) (second′ : List ℕ)
       → MayPutIn words code schedule → Inserted 65537 2048 words code schedule second (given (total ∷ [])) second′
       → (a : ℕ) → 1 ≤ a → a ≤ 65536
-      → lookupOf 65537 2048 second′ a ≡ cond (eqb a code) (given (schedule ∷ [])) (lookupOf 65537 2048 words a)
+      → scheduleAlone (lookupOf 65537 2048 second′ a)
+      ≡ cond (eqb a code) (given (schedule ∷ [])) (scheduleAlone (lookupOf 65537 2048 words a))
   pub take-out-lookup :
       (words : List ℕ) (code : ℕ) (second : List ℕ) (total : ℕ) (second′ : List ℕ)
       → MayTakeOut words code → Removed 65537 2048 words code second (given (total ∷ [])) second′
       → (a : ℕ) → 1 ≤ a → a ≤ 65536
-      → lookupOf 65537 2048 second′ a ≡ cond (eqb a code) absent (lookupOf 65537 2048 words a)
+      → scheduleAlone (lookupOf 65537 2048 second′ a) ≡ cond (eqb a code) absent (scheduleAlone (lookupOf 65537 2048 words a))
 
 -- Document 02, Change 1: suppliers' lists as text
 pub record Texts : Type 0 where
@@ -455,3 +456,33 @@ pub record Files : Type 0 where
   pub lists :
       (words : List ℕ) → AllWords words → length words ≤ 16384
       → listingOf 65537 2048 (bytesOf words) ≡ textOf (checkOf 65537 2048 words) words
+
+-- what decides a panel: a code found with this schedule in this cell, where every code is found, none with a larger schedule, and none before it
+-- with the same
+pub record DecidedBy (words codes : List ℕ) (s i : ℕ) : Type 0 where
+  pub index : ℕ
+  pub in-panel : index < length codes
+  pub found : lookupOf 65537 2048 words (getD codes index 0) ≡ given (s ∷ i ∷ [])
+  pub all-found : (x : ℕ) → x < length codes → (t : ℕ) × FoundWith 65537 2048 words (getD codes x 0) t × (t ≤ s) × (x < index → t < s)
+
+-- Document 02, Change 4: where the glass lies
+pub record Cells : Type 0 where
+  -- in any words, checked or not, a code that is found stands with its schedule in the cell that is answered, one of the c
+  pub stands-there :
+      (words : List ℕ) (a s i : ℕ) → lookupOf 65537 2048 words a ≡ given (s ∷ i ∷ [])
+      → (i < cellCount words) × (cellCode words i ≡ a) × (cellSchedule words i ≡ s)
+  -- which is its own cell, counted over the whole table
+  pub own-cell : (words : List ℕ) (a s i : ℕ) → lookupOf 65537 2048 words a ≡ given (s ∷ i ∷ []) → i ≡ ownCell 65537 words a
+  -- so different codes are found in different cells
+  pub apart :
+      (words : List ℕ) (a b s t i : ℕ) → lookupOf 65537 2048 words a ≡ given (s ∷ i ∷ []) → lookupOf 65537 2048 words b ≡ given (t ∷ i ∷ [])
+      → a ≡ b
+  -- in an accepted table the cell of a code is the one where the pair that is read back stands
+  pub where-read :
+      (words : List ℕ) → Accepted words → (a s i : ℕ)
+      → (lookupOf 65537 2048 words a ≡ given (s ∷ i ∷ []))
+      ↔ (Listed (codesOf (pairsIn words)) (schedulesOf (pairsIn words)) a s × (i < cellCount words) × (cellCode words i ≡ a))
+  -- a panel answers the schedule and the cell of the first of its codes with the largest schedule, exactly where all are found
+  pub panel-decided :
+      (words codes : List ℕ) (s i : ℕ)
+      → (panelOf 65537 2048 words codes ≡ given (s ∷ i ∷ [])) ↔ ((length codes ≤ 64) × DecidedBy words codes s i)

@@ -73,11 +73,11 @@ module _ {p limit : ℕ} {words : List ℕ} (f : WellFormed p limit words) (code
   unfolding present
   present-is = among-is code (pairsIn words) ∙ ap (ltb left) (pairs-length f)
 
-  pub left-found : (s : ℕ) → lookupOf p limit words code ≡ given (s ∷ []) → suc left ≡ codeCount words
+  pub left-found : (s cell : ℕ) → lookupOf p limit words code ≡ given (s ∷ cell ∷ []) → suc left ≡ codeCount words
   unfolding present
-  left-found s e =
+  left-found s cell e =
       let there : among code (codesOf (pairsIn words)) ≡ true
-      = mem-among (codesOf (pairsIn words)) (Memᴰ·map (λ (x : Pair). x .code) (found-pairs f {r = record { code = code; schedule = s }} e)) in
+      = mem-among (codesOf (pairsIn words)) (Memᴰ·map (λ (x : Pair). x .code) (found-pairs f {r = record { code = code; schedule = s }} cell e)) in
       omega (arith, left-ge, ltb-true left (codeCount words) (sym present-is ∙ there))
 
   -- ---- put in

@@ -1,14 +1,12 @@
-// The C interface (include/glass.h): each function shows the answer of the proved one as a number and a value.
+// The C interface (include/glass.h): each function shows the answer of the proved one as a number and a value, of a lookup and a panel with a cell.
 ghost use Rattle.table.specs.Lookup.{lookupOf};
 ghost use Rattle.panel.specs.Panel.{panelOf};
 ghost use Rattle.audit.specs.Check.{checkOf};
-ghost use Rattle.table.specs.Numbers.{Shown};
+ghost use Rattle.table.specs.Numbers.{Shown, FoundShown};
 ghost use Rattle.glass_c.specs.Exports.{BuildShown, PairsShown, InsertShown, RemoveShown, ReadListShown, WriteListShown, GenerateShown};
 ghost use Rattle.table.specs.Limits.{mostPairs};
-
-mod found;
-
 use table::answers::Numbered;
+use table::answers::NumberedFound;
 use table::answers::NumberedSize;
 
 #[no_mangle]
@@ -26,15 +24,15 @@ pub extern "C" fn glass_check(words: &[u32]) -> Numbered
 }
 
 #[no_mangle]
-pub extern "C" fn glass_lookup(words: &[u32], code: u32) -> Numbered
-    ensures { λ r. ⌜ Shown (lookupOf 65537 mostPairs (now (words .entry)) code) r ⌝ }
+pub extern "C" fn glass_lookup(words: &[u32], code: u32) -> NumberedFound
+    ensures { λ r. ⌜ FoundShown (lookupOf 65537 mostPairs (now (words .entry)) code) r ⌝ }
 {
-    found::numbered(table::branch_free::lookup_word(words, code))
+    table::branch_free::lookup_numbered(words, code)
 }
 
 #[no_mangle]
-pub extern "C" fn glass_panel(words: &[u32], codes: &[u32]) -> Numbered
-    ensures { λ r. ⌜ Shown (panelOf 65537 mostPairs (now (words .entry)) (now (codes .entry))) r ⌝ }
+pub extern "C" fn glass_panel(words: &[u32], codes: &[u32]) -> NumberedFound
+    ensures { λ r. ⌜ FoundShown (panelOf 65537 mostPairs (now (words .entry)) (now (codes .entry))) r ⌝ }
 {
     panel::numbered::numbered(panel::panel(words, codes))
 }

@@ -9,7 +9,7 @@ use Rattle.panel.specs.declared.Fired.{Fired}
 use Rattle.panel.specs.declared.Fired.the-variants.{Schedule, Unknown, CodeOutOfRange, TooFewWords, BadSizes, BadBlock, NoCodes, TooManyCodes}
 
 told : Answer → Fired
-told (given values) = Schedule (getD values 0 0)
+told (given values) = Schedule (getD values 0 0) (getD values 1 0)
 told absent = NoCodes
 told (unknown i) = Unknown i
 told (refused number i) =
@@ -23,7 +23,7 @@ told-fired : (f : Fired) → told (firedOf f) ≡ f
 unfolding told
 told-fired f =
     elim f [
-      | Schedule s ↦ refl
+      | Schedule s i ↦ refl
       | Unknown i ↦ refl
       | CodeOutOfRange i ↦ refl
       | TooFewWords i ↦ refl

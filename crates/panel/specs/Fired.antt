@@ -5,7 +5,7 @@ use Rattle.panel.specs.declared.Fired.{Fired}
 use Rattle.panel.specs.declared.Fired.the-variants.{Schedule, NoCodes, TooManyCodes, Unknown, CodeOutOfRange, TooFewWords, BadSizes, BadBlock}
 
 abbrev pub firedOf : Fired → Answer
-firedOf (Schedule s) = given (s ∷ [])
+firedOf (Schedule s i) = given (s ∷ i ∷ [])
 firedOf NoCodes = refused 35 0
 firedOf TooManyCodes = refused 36 0
 firedOf (Unknown i) = unknown i

@@ -1,6 +1,8 @@
-// The schedule of a panel, a batch of codes fired together (document 01, "Panel").
-ghost use Prim.Native.Nat.{_≤_};
+// The schedule of a panel, a batch of codes fired together (document 01, "Panel"), and the cell of the code that decides it.
+ghost use Prim.Native.Nat.{max, _≤_};
+ghost use mathlib.Core.Bool.{cond};
 ghost use mathlib.Core.Path.{_≡_};
+ghost use lib.Dec.{ltb};
 ghost use lib.ListN.{length};
 ghost use Rattle.table.specs.Lookup.{lookupOf};
 ghost use Rattle.table.specs.code.Sized.{WithBlocks, HashOf};
@@ -24,7 +26,8 @@ use table::words::has_blocks;
 use table::words::table_hash;
 
 pub enum Fired {
-    Schedule(u32),
+    // the largest schedule, and the cell of the first code that has it
+    Schedule(u32, u32),
     // 35
     NoCodes,
     // 36
@@ -43,7 +46,7 @@ fn ended(f: Found, i: u32) -> Fired
     ensures { λ r. ⌜ firedOf r ≡ endedOf (foundOf f) i ⌝ }
 {
     match f {
-        Found::Schedule(s) => Fired::Schedule(s),
+        Found::Schedule(s, cell) => Fired::Schedule(s, cell),
         Found::Absent => Fired::Unknown(i),
         Found::CodeOutOfRange => Fired::CodeOutOfRange(i),
         Found::TooFewWords => Fired::TooFewWords(i),
@@ -64,23 +67,46 @@ fn lookup_in(h: Hasher, limit: u32, words: &[u32], code: u32) -> Found
     in_block(h.prime, words, code, j)
 }
 
-// The codes looked up in their order: the first one absent or refused ends it, otherwise the largest schedule found.
+// The schedule that decides a panel so far, and the cell of its code.
+struct Decided {
+    schedule: u32,
+    cell: u32,
+}
+
+// With one more schedule found: the larger of the two, the earlier where they are equal.
+fn decide(d: Decided, schedule: u32, cell: u32) -> Decided
+    ensures { λ r. ⌜ (r .schedule ≡ max (d .schedule) schedule) × (r .cell ≡ cond (ltb (d .schedule) schedule) cell (d .cell)) ⌝ }
+{
+    let mut decides = d.cell;
+    if d.schedule < schedule {
+        decides = cell;
+    }
+    Decided {
+        schedule: larger(d.schedule, schedule),
+        cell: decides,
+    }
+}
+
+// The codes looked up in their order: the first one absent or refused ends it, otherwise the first of the largest schedule decides.
 fn walk(p: u32, limit: u32, words: &[u32], codes: &[u32]) -> Fired
     requires { ⌜ (1 ≤ p) × (WithBlocks p limit (now words) × (length (now codes) ≤ 64)) ⌝ }
-    ensures { λ r. ⌜ firedOf r ≡ walkOf p limit (now (words .entry)) (now (codes .entry)) 0 0 ⌝ }
+    ensures { λ r. ⌜ firedOf r ≡ walkOf p limit (now (words .entry)) (now (codes .entry)) 0 0 0 ⌝ }
 {
     let h = table_hash(p, words);
-    let mut largest: u32 = 0;
+    let mut decided = Decided {
+        schedule: 0,
+        cell: 0,
+    };
     let mut i: usize = 0;
     while i < codes.len() {
         let f = lookup_in(h, limit, words, codes[i]);
-        let Found::Schedule(s) = f else {
+        let Found::Schedule(schedule, cell) = f else {
             return ended(f, i as u32);
         };
-        largest = larger(largest, s);
+        decided = decide(decided, schedule, cell);
         i += 1;
     }
-    Fired::Schedule(largest)
+    Fired::Schedule(decided.schedule, decided.cell)
 }
 
 // The answer for any words and codes, with the prime and the limit on the codes of a table.
@@ -100,7 +126,7 @@ fn panel_for(p: u32, limit: u32, words: &[u32], codes: &[u32]) -> Fired
     walk(p, limit, words, codes)
 }
 
-// The schedule of a panel in any words: the largest of its codes, unknown, or refused. It writes nothing and relies on no earlier check.
+// The schedule of a panel in any words: the largest of its codes with its cell, unknown, or refused. It writes nothing and relies on no earlier check.
 pub fn panel(words: &[u32], codes: &[u32]) -> Fired
     ensures { λ r. ⌜ firedOf r ≡ panelOf 65537 mostPairs (now (words .entry)) (now (codes .entry)) ⌝ }
 {

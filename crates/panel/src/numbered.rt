@@ -1,44 +1,35 @@
-// The number and the value of each answer of a panel.
+// The number, the value and the cell of each answer of a panel.
+ghost use mathlib.Core.Path.{_≡_};
 ghost use Rattle.panel.specs.Fired.{firedOf};
-ghost use Rattle.table.specs.Numbers.{Shown};
+ghost use Rattle.table.specs.Numbers.{FoundShown};
 use crate::Fired;
-use table::answers::Numbered;
+use table::answers::NumberedFound;
 
-pub fn numbered(f: Fired) -> Numbered
-    ensures { λ r. ⌜ Shown (firedOf f) r ⌝ }
+fn without_cell(number: u32, value: u32) -> NumberedFound
+    ensures { λ r. ⌜ (r .number ≡ number) × ((r .value ≡ value) × (r .cell ≡ 0)) ⌝ }
+{
+    NumberedFound {
+        number: number,
+        value: value,
+        cell: 0,
+    }
+}
+
+pub fn numbered(f: Fired) -> NumberedFound
+    ensures { λ r. ⌜ FoundShown (firedOf f) r ⌝ }
 {
     match f {
-        Fired::Schedule(s) => Numbered {
+        Fired::Schedule(schedule, cell) => NumberedFound {
             number: 0,
-            value: s,
+            value: schedule,
+            cell: cell,
         },
-        Fired::Unknown(i) => Numbered {
-            number: 1000,
-            value: i,
-        },
-        Fired::CodeOutOfRange(i) => Numbered {
-            number: 31,
-            value: i,
-        },
-        Fired::TooFewWords(i) => Numbered {
-            number: 32,
-            value: i,
-        },
-        Fired::BadSizes(i) => Numbered {
-            number: 33,
-            value: i,
-        },
-        Fired::BadBlock(i) => Numbered {
-            number: 34,
-            value: i,
-        },
-        Fired::NoCodes => Numbered {
-            number: 35,
-            value: 0,
-        },
-        Fired::TooManyCodes => Numbered {
-            number: 36,
-            value: 0,
-        },
+        Fired::Unknown(i) => without_cell(1000, i),
+        Fired::CodeOutOfRange(i) => without_cell(31, i),
+        Fired::TooFewWords(i) => without_cell(32, i),
+        Fired::BadSizes(i) => without_cell(33, i),
+        Fired::BadBlock(i) => without_cell(34, i),
+        Fired::NoCodes => without_cell(35, 0),
+        Fired::TooManyCodes => without_cell(36, 0),
     }
 }

@@ -132,13 +132,14 @@ module _ {p limit : ℕ} {words : List ℕ} (f : WellFormed p limit words) where
       (omega arith, omega (arith, f .schedule-in-range i l))
 
   -- those that a lookup finds
-  pub pairs-found : {r : Pair} → List·Memᴰ r (pairsIn words) → lookupOf p limit words (r .code) ≡ given (r .schedule ∷ [])
+  pub pairs-found :
+      {r : Pair} → List·Memᴰ r (pairsIn words) → (i : ℕ) × (lookupOf p limit words (r .code) ≡ given (r .schedule ∷ i ∷ []))
   pairs-found {r} m =
       let (i, l, code, schedule, held) = cell-of-pair m in
-      lookup-found f (r .code) held (omega (arith, f .code-in-range i l)) i l code ∙ ap (λ (s : ℕ). given (s ∷ [])) schedule
+      (i, lookup-found f (r .code) held (omega (arith, f .code-in-range i l)) i l code ∙ ap (λ (s : ℕ). given (s ∷ i ∷ [])) schedule)
 
-  pub found-pairs : {r : Pair} → lookupOf p limit words (r .code) ≡ given (r .schedule ∷ []) → List·Memᴰ r (pairsIn words)
-  found-pairs {r} e =
+  pub found-pairs : {r : Pair} (cell : ℕ) → lookupOf p limit words (r .code) ≡ given (r .schedule ∷ cell ∷ []) → List·Memᴰ r (pairsIn words)
+  found-pairs {r} cell e =
       let (from, below) = lookup-range p limit words (r .code) _ (omega (arith, f .in-range)) e in
       ⊎-elim
       (λ (i, l, code).

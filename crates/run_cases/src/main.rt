@@ -1,18 +1,38 @@
 // The cases of document 01 that are run: ranges at their ends and one beyond, the largest list and one more, panels at their ends. Each line is the
-// case, then the number and the value that C sees.
+// case, then the number and the value that C sees, and of a lookup or a panel the cell.
 ghost use Prim.Native.Nat.{_≤_};
 ghost use lib.ListN.{length};
 use table::answers::Numbered;
+use table::answers::NumberedFound;
+
+fn print_field(x: u32) {
+    io::write_all(1, b" ");
+    io::print_decimal(1, x as u64);
+}
+
+fn print_case(name: &[u8], n: u32) {
+    io::write_all(1, name);
+    io::print_decimal(1, n as u64);
+    io::write_all(1, b":");
+}
 
 fn print_line(name: &[u8], n: u32, a: Numbered) {
     let number = a.number;
     let value = a.value;
-    io::write_all(1, name);
-    io::print_decimal(1, n as u64);
-    io::write_all(1, b": ");
-    io::print_decimal(1, number as u64);
-    io::write_all(1, b" ");
-    io::print_decimal(1, value as u64);
+    print_case(name, n);
+    print_field(number);
+    print_field(value);
+    io::write_all(1, b"\n");
+}
+
+fn print_found(name: &[u8], n: u32, a: NumberedFound) {
+    let number = a.number;
+    let value = a.value;
+    let cell = a.cell;
+    print_case(name, n);
+    print_field(number);
+    print_field(value);
+    print_field(cell);
     io::write_all(1, b"\n");
 }
 
@@ -61,7 +81,7 @@ fn ends(words: &mut [u32]) {
 fn lookup(a: u32) {
     let mut words = [0u32; 15];
     ends(&mut words);
-    print_line(b"lookup ", a, glass_c::glass_lookup(&words, a));
+    print_found(b"lookup ", a, glass_c::glass_lookup(&words, a));
 }
 
 // The panel of 1 and this code.
@@ -69,7 +89,7 @@ fn panel_with(a: u32) {
     let mut words = [0u32; 15];
     ends(&mut words);
     let codes = [1, a];
-    print_line(b"panel 1 ", a, glass_c::glass_panel(&words, &codes));
+    print_found(b"panel 1 ", a, glass_c::glass_panel(&words, &codes));
 }
 
 // The table of 7 with 500.
@@ -136,7 +156,7 @@ fn panel(n: usize, words: &[u32], codes: &[u32])
     requires { ⌜ (n ≤ 65) × (n ≤ length (now codes)) ⌝ }
 {
     let a = glass_c::glass_panel(words, &codes[..n]);
-    print_line(b"panel ", n as u32, a);
+    print_found(b"panel ", n as u32, a);
 }
 
 // The largest table: reached, kept by a code that it has, and no larger.

@@ -33,7 +33,7 @@ pub refusals-pass : (tests : List Refusal) (values : List ℕ) → Passed tests 
 refusals-pass [] values all = refl
 refusals-pass (r ∷ rest) values all = rw (all .0) (refusals-pass rest values (all .1))
 
-refuse-passed :
+pub refuse-passed :
     (fails : Bool) (number value : ℕ) (rest : Answer) (values : List ℕ) → refuse fails number value rest ≡ given values
     → (fails ≡ false) × (rest ≡ given values)
 refuse-passed true number value rest values e = never-both refl e

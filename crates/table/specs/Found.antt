@@ -5,7 +5,7 @@ use Rattle.table.specs.declared.lookup.Found.{Found}
 use Rattle.table.specs.declared.lookup.Found.the-variants.{Schedule, Absent, CodeOutOfRange, TooFewWords, BadSizes, BadBlock}
 
 abbrev pub foundOf : Found → Answer
-foundOf (Schedule s) = given (s ∷ [])
+foundOf (Schedule s i) = given (s ∷ i ∷ [])
 foundOf Absent = absent
 foundOf CodeOutOfRange = refused 31 0
 foundOf TooFewWords = refused 32 0

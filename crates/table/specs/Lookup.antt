@@ -27,12 +27,12 @@ tooShort words = ltb (length words) (total words)
 unfoldable pub badSizes : ℕ → ℕ → List ℕ → Bool
 badSizes p limit words = tooManyCodes limit words || (tooManyCells words || (badMultiplier p words || tooShort words))
 
--- the answer from cell i, the one that the code can be in
+-- the answer from cell i, the one that the code can be in: its schedule and its cell (document 02, Change 4)
 unfoldable pub inCell : List ℕ → ℕ → ℕ → Answer
 inCell words code i =
     cond (eqb (cellCode words i) code)
     (refuse (outside 1 999 (cellSchedule words i)) 34 0
-    (given (cellSchedule words i ∷ [])))
+    (given (cellSchedule words i ∷ i ∷ [])))
     absent
 
 -- the answer from block j, the code's own

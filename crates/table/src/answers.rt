@@ -14,3 +14,11 @@ pub struct NumberedSize {
     pub number: u32,
     pub value: usize,
 }
+
+// The same of a lookup or a panel: where a schedule is found, with its cell; 0 where there is none.
+#[repr(C)]
+pub struct NumberedFound {
+    pub number: u32,
+    pub value: u32,
+    pub cell: u32,
+}

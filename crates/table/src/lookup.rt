@@ -18,7 +18,8 @@ use crate::words::cell_in;
 use crate::words::cell_schedule;
 
 pub enum Found {
-    Schedule(u32),
+    // a schedule, and the cell that the code is in
+    Schedule(u32, u32),
     Absent,
     // 31
     CodeOutOfRange,
@@ -42,7 +43,7 @@ fn in_cell(words: &[u32], code: u32, i: usize) -> Found
     if outside(1, 999, schedule) {
         return Found::BadBlock;
     }
-    Found::Schedule(schedule)
+    Found::Schedule(schedule, i as u32)
 }
 
 // The answer from block j, the code's own. The q of a block without cells is not looked at.
@@ -87,7 +88,7 @@ pub fn lookup_for(p: u32, limit: u32, words: &[u32], code: u32) -> Found
     in_block(p, words, code, block_of(p, words, code))
 }
 
-// The schedule of a code in any words: found, absent, or refused by 31 to 34. It writes nothing and relies on no earlier check.
+// The schedule and the cell of a code in any words: found, absent, or refused by 31 to 34. It writes nothing and relies on no earlier check.
 pub fn lookup(words: &[u32], code: u32) -> Found
     ensures { λ r. ⌜ foundOf r ≡ lookupOf 65537 mostPairs (now (words .entry)) code ⌝ }
 {

@@ -99,4 +99,11 @@ firings =
       P10 = refuses _ _ 14 _ _ (into-room codes3 schedules3 table3 listed3 tabled3 14);
       P11 = λ lent. refuses _ _ lent _ _ (list-decides (5 ∷ 5 ∷ []) (1 ∷ 1 ∷ []) (refused 5 1) refl lent);
       P12 = refl;
+      P12-cell = refl;
+      P12-7 = refl;
+      P12-17 = refl;
+      P12-4 = refl;
+      P12-tied = refl;
+      P12-first-7 = refl;
+      P12-first-17 = refl;
     }

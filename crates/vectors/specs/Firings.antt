@@ -1,8 +1,9 @@
--- P1 to P12 of document 01, "Firings to compare by": one table, a field or more for each case. Statements only.
+-- P1 to P12 of document 01, "Firings to compare by", a found code with its cell (document 02, Change 4): one table, a field or more for each case.
+-- Statements only.
 use Prim.Native.Nat.{ℕ, _≤_}
 use mathlib.Core.List.{List, [], _∷_, _++_}
 use mathlib.Core.Path.{_≡_}
-use lib.ListN.{length, drop}
+use lib.ListN.{length, take, drop}
 use Rattle.hash.specs.Hash.{load, members}
 use Rattle.table.specs.Answers.{Answer, given, absent, refused}
 use Rattle.table.specs.Words.{blockStart, blockEnd, cellCode, blockOf, ownCell}
@@ -45,6 +46,10 @@ table5 =
     ∷ 20 ∷ 0 ∷ 17 ∷ 0 ∷ 7 ∷ 8 ∷ 4
     ∷ 15 ∷ 0 ∷ 14 ∷ 0 ∷ 12 ∷ 13 ∷ 11 ∷ []
 
+-- the table of the same codes, where 7 has the schedule of 17
+abbrev pub tied5 : List ℕ
+tied5 = take 20 table5 ++ (15 ∷ 0 ∷ 14 ∷ 0 ∷ 14 ∷ 13 ∷ 11 ∷ [])
+
 abbrev pub codes7 : List ℕ
 codes7 = 2 ∷ 4 ∷ 5 ∷ 15 ∷ 18 ∷ 30 ∷ []
 
@@ -64,7 +69,7 @@ pub record Firings : Type 0 where
   pub P7-3 : members 31 2 6 3 codes7 ≡ []
   pub P7-4 : members 31 2 6 4 codes7 ≡ 2 ∷ 5 ∷ []
   pub P7-5 : members 31 2 6 5 codes7 ≡ 18 ∷ 30 ∷ []
-  pub P8-found : lookupOf 65537 2048 table3 6 ≡ given (2 ∷ [])
+  pub P8-found : lookupOf 65537 2048 table3 6 ≡ given (2 ∷ 1 ∷ [])
   pub P8-absent : lookupOf 65537 2048 table3 10 ≡ absent
   -- the own cell of 10 is cell 1, as that of 6 is, and it holds 6
   pub P8-own-10 : ownCell 65537 table3 10 ≡ 1
@@ -78,4 +83,14 @@ pub record Firings : Type 0 where
   pub P10 : Refuses codes3 schedules3 14 6 15
   -- whatever the number of lent words
   pub P11 : (lent : ℕ) → Refuses (5 ∷ 5 ∷ []) (1 ∷ 1 ∷ []) lent 5 1
-  pub P12 : panelOf 65537 2048 table5 (7 ∷ 17 ∷ 4 ∷ []) ≡ given (14 ∷ [])
+  -- the cell is that of 17, which decides
+  pub P12 : panelOf 65537 2048 table5 (7 ∷ 17 ∷ 4 ∷ []) ≡ given (14 ∷ 2 ∷ [])
+  pub P12-cell : cellCode table5 2 ≡ 17
+  -- each of its codes alone
+  pub P12-7 : lookupOf 65537 2048 table5 7 ≡ given (12 ∷ 4 ∷ [])
+  pub P12-17 : lookupOf 65537 2048 table5 17 ≡ given (14 ∷ 2 ∷ [])
+  pub P12-4 : lookupOf 65537 2048 table5 4 ≡ given (11 ∷ 6 ∷ [])
+  -- of two codes with the largest schedule the first decides: 7 with 14 too
+  pub P12-tied : tableOf 65537 codes5 (11 ∷ 14 ∷ 13 ∷ 14 ∷ 15 ∷ []) ≡ tied5
+  pub P12-first-7 : panelOf 65537 2048 tied5 (4 ∷ 7 ∷ 17 ∷ []) ≡ given (14 ∷ 4 ∷ [])
+  pub P12-first-17 : panelOf 65537 2048 tied5 (17 ∷ 4 ∷ 7 ∷ []) ≡ given (14 ∷ 2 ∷ [])

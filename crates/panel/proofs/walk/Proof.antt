@@ -1,4 +1,4 @@
--- `panel::walk` meets its contract. The loop's invariant: the walk from index i on, with the largest schedule so far, is the whole walk.
+-- `panel::walk` meets its contract. The loop's invariant: the walk from index i on, with the largest schedule so far and its cell, is the whole walk.
 -- The measure is what is left of the codes.
 use Prim.Native.Nat.{ℕ, _≤_, _-_}
 use mathlib.Core.Path.{_≡_, _∙_, sym, ap, subst}
@@ -15,11 +15,11 @@ use Rattle.panel.proofs.walk.Statement.{statement}
 use Rattle.panel.proofs.walk.Tie as tie
 
 abbrev Inv-loop : tie.InvT-loop
-Inv-loop p limit words codes h largest₀ i₀ largest i =
-    (i ≤ length codes) × (walkOf p limit words codes 0 0 ≡ walkOf p limit words (drop i codes) i largest)
+Inv-loop p limit words codes h decided₀ i₀ decided i =
+    (i ≤ length codes) × (walkOf p limit words codes 0 0 0 ≡ walkOf p limit words (drop i codes) i (decided .schedule) (decided .cell))
 
 abbrev μ-loop : tie.MeasureT-loop
-μ-loop p limit words codes h largest₀ i₀ largest i = length codes - i
+μ-loop p limit words codes h decided₀ i₀ decided i = length codes - i
 
 loop-holds : tie.Need-loop-holds Inv-loop μ-loop
 loop-holds c = search needs
@@ -43,7 +43,7 @@ returns c =
     let found = c .before .before in
     let turn = found .before .before in
     c .ended .ensures ∙
-    sym (turn .before .loop .inv .1 ∙ walk-ends _ _ _ _ _ _ (turn .loop-test .taken) (found .lookup-in .result) (c .before .match .keys2) (found .lookup-in .ensures ∙ by-prime (turn .before .before) _))
+    sym (turn .before .loop .inv .1 ∙ walk-ends _ _ _ _ _ _ _ (turn .loop-test .taken) (found .lookup-in .result) (c .before .match .keys2) (found .lookup-in .ensures ∙ by-prime (turn .before .before) _))
 
 loop-again : tie.Need-loop-again Inv-loop μ-loop
 loop-again c =
@@ -51,13 +51,13 @@ loop-again c =
     let found = schedule .before .before in
     let turn = found .before .before in (
       omega arith,
-      rw (c .larger .ensures)
+      rw (c .decide .ensures .0, c .decide .ensures .1)
           (turn .before .loop .inv .1 ∙
-          walk-on _ _ _ _ _ _ (turn .loop-test .taken) _ (sym (found .lookup-in .ensures ∙ by-prime (turn .before .before) _) ∙ ap foundOf (schedule .f .given .1))),
+          walk-on _ _ _ _ _ _ _ (turn .loop-test .taken) _ _ (sym (found .lookup-in .ensures ∙ by-prime (turn .before .before) _) ∙ ap foundOf (schedule .f .given .1))),
     )
 
 returns-2 : tie.Need-returns-2 Inv-loop μ-loop
-returns-2 c = sym (c .before .loop .inv .1 ∙ walk-over _ _ _ _ _ _ (c .loop-test .left))
+returns-2 c = sym (c .before .loop .inv .1 ∙ walk-over _ _ _ _ _ _ _ (c .loop-test .left))
 
 pub walk-spec : {M : Type 1} → statement M
 walk-spec =

@@ -2,17 +2,21 @@
 use mathlib.Core.Path.{_∙_, sym}
 use borrow.Author.Needs.{needs}
 use Rattle.table.proofs.Laws.{below-prime}
-use Rattle.table.proofs.Probing.{unread, readable, probed}
+use Rattle.table.proofs.Probing.{shown-as, unread, readable, probed}
 use Rattle.table.proofs.branch_free.block_answer.Statement.{statement}
 use Rattle.table.proofs.branch_free.block_answer.Tie as tie
 
 returns : tie.Need-returns
 returns c =
-    let bad = c .before .before in
+    let chosen = c .before in
+    let bad = chosen .before .before in
     let q = bad .before .before in
-    rw (c .select .ensures)
+    shown-as
+    (rw (chosen .select .ensures)
     (unread _ _ _ _ (q .before .before .block-start .ensures) (q .before .block-end .ensures) (q .block-multiplier .ensures)
-    (sym (bad .unreadable .ensures) ∙ c .before .if1 .taken))
+    0
+    (sym (bad .unreadable .ensures) ∙ chosen .before .if1 .taken)))
+    (c .numbered .ensures)
 
 probe-requires : tie.Need-probe-requires
 probe-requires c κs =
@@ -23,9 +27,10 @@ returns-2 : tie.Need-returns-2
 returns-2 c =
     let good = c .before .before in
     let q = good .before .before in
-    c .probe .ensures ∙
-    probed _ _ _ _ (q .before .before .block-start .ensures) (q .before .block-end .ensures) (q .block-multiplier .ensures)
-    (sym (good .unreadable .ensures) ∙ c .before .if1 .left)
+    shown-as
+    (probed _ _ _ _ (q .before .before .block-start .ensures) (q .before .block-end .ensures) (q .block-multiplier .ensures)
+    (sym (good .unreadable .ensures) ∙ c .before .if1 .left))
+    (c .probe .ensures)
 
 pub block-answer-spec : {M : Type 1} → statement M
 block-answer-spec =
@@ -35,6 +40,7 @@ block-answer-spec =
     (λ c κs. search needs)
     (λ c κs. search needs)
     (λ c. search needs)
+    (λ c κs. search needs)
     (λ c κs. search needs)
     (λ c κs. search needs)
     returns

@@ -33,4 +33,5 @@ in-cell-spec =
     (λ c κs. search needs)
     (λ c κs. search needs)
     returns-2
+    (λ c. search (needs, c .before .before .before .before .before .shared-slice-known .given 1))
     returns-3)

@@ -1,0 +1,76 @@
+-- Where the glass lies: a code that is found stands in the cell that is answered.
+use Prim.Native.Nat.{ℕ, _<_}
+use native.Mathlib.Omega.{arith}
+use mathlib.Core.List.{List, [], _∷_}
+use mathlib.Core.Logic.{_↔_}
+use mathlib.Core.Path.{_≡_, sym, _∙_, ap}
+use lib.ListN.{getD}
+use Rattle.table.specs.Answers.{given}
+use Rattle.table.specs.Pairs.{codesOf, schedulesOf}
+use Rattle.table.specs.Words.{cellCount, cellCode, cellSchedule, ownCell}
+use Rattle.table.specs.Lookup.{lookupOf}
+use Rattle.audit.specs.WellFormed.{WellFormed}
+use Rattle.audit.proofs.Lookups.{lookup-range, lookup-found}
+use Rattle.audit.proofs.WellFormed.{check-exactly}
+use Rattle.reader.specs.Pairs.{pairsIn}
+use Rattle.demands.specs.Lists.{Listed}
+use Rattle.demands.specs.Theorems.{DecidedBy, Cells}
+use Rattle.demands.proofs.Lookups.{lookup-stands}
+use Rattle.demands.proofs.Panels.{panel-taken, panel-given}
+use Rattle.demands.proofs.Reading.{pairs-exactly}
+
+module _ (p limit : ℕ) (words : List ℕ) (a s i : ℕ) (e : lookupOf p limit words a ≡ given (s ∷ i ∷ [])) where
+  own-cell : i ≡ ownCell p words a
+  own-cell = let stands = lookup-stands p words a limit e in cc (stands .found)
+
+  stands-there : (i < cellCount words) × (cellCode words i ≡ a) × (cellSchedule words i ≡ s)
+  stands-there =
+      let stands = lookup-stands p words a limit e in
+      let schedule : cellSchedule words (ownCell p words a) ≡ s = cc (stands .found) in
+      rw own-cell (stands .below, stands .code, schedule)
+
+  positive : 0 < s
+  positive =
+      let stands = lookup-stands p words a limit e in
+      let schedule : cellSchedule words (ownCell p words a) ≡ s = cc (stands .found) in
+      omega (arith, stands .from-one)
+
+where-read :
+    {p limit : ℕ} {words : List ℕ} → WellFormed p limit words → (a s i : ℕ)
+    → (lookupOf p limit words a ≡ given (s ∷ i ∷ []))
+    ↔ (Listed (codesOf (pairsIn words)) (schedulesOf (pairsIn words)) a s × (i < cellCount words) × (cellCode words i ≡ a))
+where-read {p} {limit} {words} f a s i = (
+  λ e.
+      let there = stands-there p limit words a s i e in
+      (pairs-exactly f a s .0 (i, e), there .0, there .1),
+  λ (listed, below, code).
+      let (j, found) = pairs-exactly f a s .1 listed in
+      let range = lookup-range p limit words a _ (omega (arith, f .in-range)) found in
+      let here = lookup-found f a (range .0) (range .1) i below code in
+      let same : j ≡ i = cc in
+      found ∙ ap (λ (x : ℕ). given (s ∷ x ∷ [])) same,
+)
+
+pub cells : Cells
+cells =
+    record {
+      stands-there = stands-there 65537 2048;
+      own-cell = own-cell 65537 2048;
+      apart = λ words a b s t i e g.
+          sym (stands-there 65537 2048 words a s i e .1) ∙ stands-there 65537 2048 words b t i g .1;
+      where-read = λ words accept. where-read (check-exactly 65537 2048 words .0 accept);
+      panel-decided = λ words codes s i. (
+        λ e.
+            let (few, taken) = panel-taken 65537 2048 words codes s i e in
+            (few, record { index = taken .index; in-panel = taken .in-panel; found = taken .found; all-found = taken .all-found }),
+        λ (few, d).
+            panel-given 65537 2048 words codes s i few
+            (record {
+              index = d .index;
+              in-panel = d .in-panel;
+              found = d .found;
+              larger = positive 65537 2048 words (getD codes (d .index) 0) s i (d .found);
+              all-found = d .all-found;
+            }),
+      );
+    }
