@@ -1,12 +1,11 @@
 -- Demands 2 and 3, for every valid list: a built table is well-formed, so what is proved of tables from anywhere holds of it.
 use Prim.Native.Nat.{ℕ, _≤_}
 use native.Mathlib.Omega.{arith}
-use mathlib.Core.List.{List, [], _∷_}
+use mathlib.Core.List.{List}
 use mathlib.Core.Path.{_≡_, sym, ap, _∙_}
 use lib.ListN.{length, take}
 use lib.Seq.{take-length}
 use Rattle.hash.proofs.Primes.{prime-65537}
-use Rattle.table.specs.Answers.{given}
 use Rattle.table.specs.Words.{cellCount}
 use Rattle.table.specs.TwoLevel.{wordsNeeded, tableOf}
 use Rattle.table.specs.Lookup.{lookupOf}

@@ -14,7 +14,7 @@ use Rattle.audit.proofs.Lookups.{lookup-range, lookup-found}
 use Rattle.audit.proofs.WellFormed.{check-exactly}
 use Rattle.reader.specs.Pairs.{pairsIn}
 use Rattle.demands.specs.Lists.{Listed}
-use Rattle.demands.specs.Theorems.{DecidedBy, Cells}
+use Rattle.demands.specs.Theorems.{Cells}
 use Rattle.demands.proofs.Lookups.{lookup-stands}
 use Rattle.demands.proofs.Panels.{panel-taken, panel-given}
 use Rattle.demands.proofs.Reading.{pairs-exactly}

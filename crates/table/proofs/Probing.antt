@@ -3,13 +3,13 @@ use Prim.Native.Nat.{ℕ, max, _+_, _*_, _-_, _<_, _≤_}
 use mathlib.Core.Bool.{Bool, true, false, cond, not, _||_, true≢false}
 use mathlib.Core.List.{List, [], _∷_}
 use mathlib.Core.Logic.{inl, inr}
-use mathlib.Core.Path.{_≡_, refl, sym, _∙_, subst}
+use mathlib.Core.Path.{_≡_, refl, sym, subst}
 use native.Mathlib.Decide.{ℕ-discrete}
 use native.Mathlib.Nat.{mul-mod-left, mul-div-cancel, eq-or-lt-of-le, add-right-comm}
 use native.Mathlib.Omega.{arith}
 use borrow.Author.Tests.{eq-eqb, ne-eqb, le-ltb, ltb-true, ltb-false}
 use lib.Dec.{eqb, ltb}
-use lib.ListN.{length, getD}
+use lib.ListN.{length}
 use Rattle.hash.specs.Hash.{hashOf}
 use Rattle.hash.proofs.Indicators.{true-or-false}
 use Rattle.table.specs.Answers.{Answer, given, absent, refuse, outside}
@@ -18,7 +18,7 @@ use Rattle.table.specs.Lookup.{badSizes, inCell, inBlock, lookupOf}
 use Rattle.table.specs.Numbers.{FoundShown}
 use Rattle.table.specs.declared.answers.NumberedFound.{NumberedFound}
 use Rattle.table.specs.code.Sized.{hasBlocks}
-use Rattle.table.specs.code.OneWord.{wordAnswer, cellAnswer, cellAt, probeAnswer, unreadable}
+use Rattle.table.specs.code.OneWord.{wordAnswer, cellAt, probeAnswer, unreadable}
 use Rattle.table.proofs.Laws.{or-false}
 use Rattle.table.proofs.Steps.{no-codes}
 
