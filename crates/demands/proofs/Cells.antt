@@ -1,4 +1,4 @@
--- Where the glass lies: a code that is found stands in the cell that is answered.
+-- Where the glass lies: the cell of a code that is found, in the words, in what is read back, and in a panel.
 use Prim.Native.Nat.{ℕ, _<_}
 use native.Mathlib.Omega.{arith}
 use mathlib.Core.List.{List, [], _∷_}
@@ -7,7 +7,7 @@ use mathlib.Core.Path.{_≡_, sym, _∙_, ap}
 use lib.ListN.{getD}
 use Rattle.table.specs.Answers.{given}
 use Rattle.table.specs.Pairs.{codesOf, schedulesOf}
-use Rattle.table.specs.Words.{cellCount, cellCode, cellSchedule, ownCell}
+use Rattle.table.specs.Words.{cellCount, cellCode}
 use Rattle.table.specs.Lookup.{lookupOf}
 use Rattle.audit.specs.WellFormed.{WellFormed}
 use Rattle.audit.proofs.Lookups.{lookup-range, lookup-found}
@@ -15,25 +15,9 @@ use Rattle.audit.proofs.WellFormed.{check-exactly}
 use Rattle.reader.specs.Pairs.{pairsIn}
 use Rattle.demands.specs.Lists.{Listed}
 use Rattle.demands.specs.Theorems.{Cells}
-use Rattle.demands.proofs.Lookups.{lookup-stands}
+use Rattle.demands.proofs.Lookups.{own-cell, stands-there, positive}
 use Rattle.demands.proofs.Panels.{panel-taken, panel-given}
 use Rattle.demands.proofs.Reading.{pairs-exactly}
-
-module _ (p limit : ℕ) (words : List ℕ) (a s i : ℕ) (e : lookupOf p limit words a ≡ given (s ∷ i ∷ [])) where
-  own-cell : i ≡ ownCell p words a
-  own-cell = let stands = lookup-stands p words a limit e in cc (stands .found)
-
-  stands-there : (i < cellCount words) × (cellCode words i ≡ a) × (cellSchedule words i ≡ s)
-  stands-there =
-      let stands = lookup-stands p words a limit e in
-      let schedule : cellSchedule words (ownCell p words a) ≡ s = cc (stands .found) in
-      rw own-cell (stands .below, stands .code, schedule)
-
-  positive : 0 < s
-  positive =
-      let stands = lookup-stands p words a limit e in
-      let schedule : cellSchedule words (ownCell p words a) ≡ s = cc (stands .found) in
-      omega (arith, stands .from-one)
 
 where-read :
     {p limit : ℕ} {words : List ℕ} → WellFormed p limit words → (a s i : ℕ)

@@ -87,3 +87,17 @@ module _ (p : ℕ) (words : List ℕ) (a : ℕ) where
   pub lookup-stands : (limit : ℕ) {values : List ℕ} → lookupOf p limit words a ≡ given values → Stands values
   unfolding Tells
   lookup-stands limit e = rw e at (lookup-tells limit)
+
+-- the same of the schedule and the cell that are answered
+module _ (p limit : ℕ) (words : List ℕ) (a s i : ℕ) (e : lookupOf p limit words a ≡ given (s ∷ i ∷ [])) where
+  schedule-is : cellSchedule words (ownCell p words a) ≡ s
+  schedule-is = let stands = lookup-stands p words a limit e in cc (stands .found)
+
+  pub own-cell : i ≡ ownCell p words a
+  own-cell = let stands = lookup-stands p words a limit e in cc (stands .found)
+
+  pub stands-there : (i < cellCount words) × (cellCode words i ≡ a) × (cellSchedule words i ≡ s)
+  stands-there = let stands = lookup-stands p words a limit e in rw own-cell (stands .below, stands .code, schedule-is)
+
+  pub positive : 0 < s
+  positive = omega (arith, schedule-is, lookup-stands p words a limit e .from-one)

@@ -10,12 +10,11 @@ use borrow.Author.Tests.{eqb-false, ne-eqb, lt-ltb, le-ltb, ltb-false}
 use lib.Dec.{eqb, ltb}
 use lib.ListN.{length, getD}
 use Rattle.table.specs.Answers.{Answer, given, absent, unknown, refused}
-use Rattle.table.specs.Words.{cellSchedule, ownCell}
 use Rattle.table.specs.Lookup.{lookupOf}
 use Rattle.table.proofs.Refusals.{never-both, refuse-passed}
 use Rattle.panel.specs.Panel.{walkOf, panelOf}
 use Rattle.demands.specs.Lists.{FoundWith}
-use Rattle.demands.proofs.Lookups.{lookup-stands}
+use Rattle.demands.proofs.Lookups.{lookup-stands, positive}
 
 -- a property of the first of some numbers, and of every later one
 first-or-later : (P : ℕ → Type 0) {n : ℕ} → P 0 → ((y : ℕ) → y < n → P (suc y)) → (x : ℕ) → x < suc n → P x
@@ -128,9 +127,7 @@ module _ (p limit : ℕ) (words : List ℕ) where
       (λ k.
       let some : length codes ≡ 0 → ⊥ = eqb-false (length codes) 0 (past-35 .0) in
       let (t, (at, found), low) = k .all-found 0 (omega arith) in
-      let stands = lookup-stands p words (getD codes 0 0) limit found in
-      let same : t ≡ cellSchedule words (ownCell p words (getD codes 0 0)) = cc (stands .found) in
-      absurd (omega (arith, k .schedule-kept, stands .from-one)))
+      absurd (omega (arith, k .schedule-kept, positive p limit words (getD codes 0 0) t at found)))
       (λ k. k)
       (walk-decided codes 0 0 0 s i (past-36 .1)) in
       (ltb-false 64 (length codes) (past-36 .0), taken)

@@ -1,7 +1,7 @@
 -- `table::branch_free::numbered` meets its contract: of each of the three kinds of word the halves are the number and the value, and only a schedule is over 0.
 use Prim.Native.Nat.{ℕ, _/_, _%_}
 use mathlib.Core.Logic.{inl, inr}
-use mathlib.Core.Path.{_≡_, _∙_}
+use mathlib.Core.Path.{_≡_, refl, _∙_}
 use native.Mathlib.Omega.{arith}
 use borrow.Author.Needs.{needs}
 use borrow.Author.Tests.{eqb-true, eq-eqb, ne-eqb}
@@ -13,27 +13,15 @@ use Rattle.table.proofs.branch_free.numbered.Statement.{statement}
 use Rattle.table.proofs.branch_free.numbered.Tie as tie
 
 module _ (word cell : ℕ) where
-  number-shown : word % 4294967296 ≡ numberOf (wordAnswer word cell)
+  halves-shown : (word % 4294967296 ≡ numberOf (wordAnswer word cell)) × (word / 4294967296 ≡ foundValueOf (wordAnswer word cell))
   unfolding wordAnswer
-  number-shown =
+  halves-shown =
       elim (true-or-false (eqb (word % 4294967296) 0)) [
-        | inl zero ↦ rw zero (eqb-true _ _ zero)
+        | inl zero ↦ rw zero (eqb-true _ _ zero, refl)
         | inr some ↦
             elim (true-or-false (eqb word 1000)) [
-              | inl none ↦ rw (some, none) (let h : word ≡ 1000 = eqb-true _ _ none in omega arith)
-              | inr bad ↦ rw (some, bad)
-            ]
-      ]
-
-  value-shown : word / 4294967296 ≡ foundValueOf (wordAnswer word cell)
-  unfolding wordAnswer
-  value-shown =
-      elim (true-or-false (eqb (word % 4294967296) 0)) [
-        | inl zero ↦ rw zero
-        | inr some ↦
-            elim (true-or-false (eqb word 1000)) [
-              | inl none ↦ rw (some, none) (let h : word ≡ 1000 = eqb-true _ _ none in omega arith)
-              | inr bad ↦ rw (some, bad)
+              | inl none ↦ let h : word ≡ 1000 = eqb-true _ _ none in rw (some, none) (omega arith, omega arith)
+              | inr bad ↦ rw (some, bad) (refl, refl)
             ]
       ]
 
@@ -50,8 +38,8 @@ module _ (word cell : ℕ) where
 returns : tie.Need-returns
 returns c =
     record {
-      number-shown = number-shown _ _;
-      value-shown = value-shown _ _;
+      number-shown = halves-shown _ _ .0;
+      value-shown = halves-shown _ _ .1;
       cell-shown =
           elim (c .if1 .came) [
             | inl (over, there) ↦ there ∙ cell-shown _ _ (over .taken)
