@@ -14,8 +14,8 @@
  *
  * Answers. Every function answers a number and a value: GLASS_OK with the result, GLASS_ABSENT (lookup, panel), or a refusal with what comes with it.
  * Both are 32 bits in a glass_answer; in a glass_size, which reading and writing a text answer, the value is a size_t; in a glass_found, which a lookup and
- * a panel answer, a cell stands beside them. Refusals are tested in the order in which each function lists them, each over all pairs, blocks, cells or
- * lines before the next; pairs, blocks, cells and lines are counted from 0.
+ * a panel answer, a cell stands beside them. Refusals are tested in the order in which each function lists them, each over all pairs, blocks, cells,
+ * holds or lines before the next; pairs, blocks, cells, lines and the codes of a panel are counted from 0.
  */
 #ifndef GLASS_H
 #define GLASS_H
@@ -78,6 +78,8 @@ typedef enum {
     /* a panel */
     GLASS_PANEL_EMPTY = 35,          /* no codes */
     GLASS_PANEL_TOO_LONG = 36,       /* more than GLASS_MOST_PANEL */
+    GLASS_PANEL_BAD_HOLDS = 74,      /* the holds are not GLASS_MOST_SCHEDULE, or one is above GLASS_MOST_HOLD */
+    GLASS_PANEL_NOT_IN_USE = 75,     /* a code is found with a schedule whose hold is 0: the code's index */
 
     /* reading back */
     GLASS_PLACES_TOO_FEW = 41,       /* codes or schedules has fewer places than the table has codes: how many it has */
@@ -104,6 +106,7 @@ enum {
     GLASS_MOST_CODE = 65536,
     GLASS_MOST_SCHEDULE = 999,
     GLASS_MOST_PANEL = 64,      /* codes of a panel */
+    GLASS_MOST_HOLD = 10080,    /* minutes that a schedule holds: a week */
     GLASS_MOST_WORDS = 16383    /* of a table: 8 * GLASS_MOST_PAIRS - 1 */
 };
 
@@ -133,13 +136,18 @@ glass_answer glass_check(const uint32_t *words, size_t words_len);
  * Refusals: 31 to 34. */
 glass_found glass_lookup(const uint32_t *words, size_t words_len, uint32_t code);
 
-/* Finds the schedule of a panel, a batch of 1 to GLASS_MOST_PANEL codes fired together: the largest schedule of its codes. The codes are looked up in
- * their order, and the first one that is absent or refused ends the panel.
+/* Finds the schedule of a panel, a batch of 1 to GLASS_MOST_PANEL codes fired together: of its codes' schedules the one with the longest hold, among
+ * equal holds the least number. holds[s - 1] is the hold of schedule s in minutes, 0 if s is not in use; there is one for each schedule, so holds_len is
+ * GLASS_MOST_SCHEDULE. The codes are looked up in their order, and the first one that is absent, refused or found with a schedule not in use ends the
+ * panel.
  *
  * Result: the schedule, with the cell of the first code that has it; or GLASS_ABSENT with the index of the code.
  *
- * Refusals: 35, 36; then 31 to 34, with the index of the code. */
-glass_found glass_panel(const uint32_t *words, size_t words_len, const uint32_t *codes, size_t codes_len);
+ * All holds are read and tested at each call, before any code is looked up: 74 is answered also where the first code is absent. That takes about as long
+ * as twelve codes of a panel do, however few there are. Of the table at most eight words are read for each code.
+ *
+ * Refusals: 35, 36, 74; then 31 to 34 or 75, with the index of the code that ends the panel. */
+glass_found glass_panel(const uint32_t *words, size_t words_len, const uint32_t *holds, size_t holds_len, const uint32_t *codes, size_t codes_len);
 
 /* Reads a table back: its pairs by rising code into the first places of codes and schedules. Later places keep what they held.
  *

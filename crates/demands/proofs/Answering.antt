@@ -1,22 +1,22 @@
 -- Which answers each operation gives: refusals stand one below the other, so one law over a list of tests serves every operation.
-use Prim.Native.Nat.{ℕ, suc, max, _+_, _-_, _%_, _<_, _≤_}
-use native.Mathlib.Decide.{decLt}
-use native.Mathlib.Nat.{max-le, le-max-right}
+use Prim.Native.Nat.{ℕ, _+_, _-_, _%_, _<_, _≤_}
 use native.Mathlib.Omega.{arith}
-use mathlib.Core.Bool.{Bool, true, false, cond, not, _&&_, _||_, true≢false}
+use mathlib.Core.Bool.{Bool, true, false, not, _&&_, _||_, true≢false}
 use mathlib.Core.List.{List, [], _∷_, _++_}
-use mathlib.Core.Logic.{_⊎_, inl, inr}
-use mathlib.Core.Path.{_≡_, refl, sym, ap, _∙_}
-use borrow.Author.Tests.{eqb-true, eqb-false, lt-ltb, le-ltb}
-use lib.Dec.{eqb, ltb, lit≤}
-use lib.ListN.{length}
+use mathlib.Core.Logic.{_⊎_, inl, inr, ⊎-elim}
+use mathlib.Core.Path.{_≡_, refl, sym}
+use borrow.Author.Tests.{eqb-true, eqb-false}
+use lib.Dec.{eqb, ltb}
+use lib.ListN.{length, getD}
 use Rattle.table.specs.Answers.{Answer, given, absent, unknown, refused, refuse, orRefused, firstOf, some, outside}
 use Rattle.table.specs.Pairs.{Pair, among, codesOf}
 use Rattle.table.specs.Words.{codeCount, cellCount, total}
 use Rattle.table.specs.TwoLevel.{wordsNeeded}
 use Rattle.table.specs.Lookup.{lookupOf}
 use Rattle.table.proofs.Refusals.{Refusal}
-use Rattle.panel.specs.Panel.{walkOf, panelOf}
+use Rattle.table.proofs.Tells.{Tells, lookup-tells}
+use Rattle.panel.specs.Panel.{badHolds, endedOf, walkOf, panelOf}
+use Rattle.panel.proofs.Walking.{goes-on, walk-cases}
 use Rattle.audit.specs.Check.{checkOf}
 use Rattle.audit.proofs.WellFormed as Check
 use Rattle.reader.specs.Pairs.{pairsIn, pairsOf}
@@ -31,7 +31,6 @@ use Rattle.suppliers.specs.Lists.{faultyLine, readListOf, listText, writeListOf
 use Rattle.generator.specs.TestLoad.{generateOf}
 use Rattle.demands.specs.Answered.{ResultOr, LookupAnswer, PanelAnswer}
 use Rattle.demands.specs.Theorems.{checkAlone, checkValued, Answering}
-use Rattle.demands.proofs.Lookups.{Tells, lookup-tells}
 
 -- ---- results and refusals
 
@@ -220,59 +219,47 @@ module _ (p limit : ℕ) (words : List ℕ) (a : ℕ) where
 
 -- ---- panels
 
--- the larger of two schedules has a cell, where the earlier one, if there was any, had one
-in-cells : (largest s at cell c : ℕ) → 1 ≤ s → at < c → (1 ≤ largest → cell < c) → cond (ltb largest s) at cell < c
-in-cells largest s at cell c from there before =
-    elim (decLt largest s) [ yes l ↦ rw (lt-ltb largest s l) there | no ge ↦ rw (le-ltb largest s (omega arith)) (before (omega arith)) ]
+-- a code that ends a panel of n codes
+ended-answers : (c n i : ℕ) (a : Answer) → i < n → LookupAnswer c a → PanelAnswer c n (endedOf a i)
+unfolding PanelAnswer LookupAnswer
+ended-answers c n i (given values) l r = inl (inr refl, l)
+ended-answers c n i absent l r = l
+ended-answers c n i (unknown j) l r = absurd r
+ended-answers c n i (refused number value) l (from, to, none) = inl (inl (from, to), l)
 
-module _ (p limit : ℕ) (words : List ℕ) (n : ℕ) where
-  -- the code with index i, and what the codes after it answer
-  walk-one :
-      (a : ℕ) (codes : List ℕ) (i largest cell : ℕ) → i < n
-      → ((s at : ℕ) → 1 ≤ s → s ≤ 999 → at < cellCount words
-      → PanelAnswer (cellCount words) n (walkOf p limit words codes (suc i) (max largest s) (cond (ltb largest s) at cell)))
-      → (answer : Answer) → lookupOf p limit words a ≡ answer → LookupAnswer (cellCount words) answer
-      → PanelAnswer (cellCount words) n (walkOf p limit words (a ∷ codes) i largest cell)
-  unfolding walkOf PanelAnswer LookupAnswer
-  walk-one a codes i largest cell at later (given values) e (s, there, one, from, to, below) =
-      rw (e ∙ ap given one, walkOf) (later s there from to below)
-  walk-one a codes i largest cell at later absent e r = rw (e, walkOf, PanelAnswer) at
-  walk-one a codes i largest cell at later (unknown j) e r = absurd r
-  walk-one a codes i largest cell at later (refused number value) e (from, to, none) = rw (e, walkOf, PanelAnswer) (inl (from, to, at))
+-- and one that decides it
+found-answers : (c n : ℕ) (a : Answer) {values : List ℕ} → a ≡ given values → LookupAnswer c a → PanelAnswer c n a
+unfolding PanelAnswer LookupAnswer
+found-answers c n a e r = rw e (rw e at r)
 
-  -- from index i on, with a schedule before it or a code to come
-  walk-answers :
-      (codes : List ℕ) (i largest cell : ℕ) → i + length codes ≡ n → largest ≤ 999 → (1 ≤ largest → cell < cellCount words)
-      → 1 ≤ largest + length codes → PanelAnswer (cellCount words) n (walkOf p limit words codes i largest cell)
-  unfolding walkOf PanelAnswer
-  walk-answers [] i largest cell at low below some = (largest, cell, refl, omega arith, low, below (omega arith))
-  walk-answers (a ∷ codes) i largest cell at low below some =
-      walk-one a codes i largest cell (omega arith)
-      (λ s there from to within.
-      walk-answers codes (suc i) (max largest s) (cond (ltb largest s) there cell) (omega arith) (max-le low to)
-      (λ _. in-cells largest s there cell (cellCount words) from within below)
-      (omega (arith, le-max-right largest s)))
-      (lookupOf p limit words a)
-      refl
-      (lookup-answers p limit words a)
-
--- 35 or 36 before an answer
+-- 35, 36 or 74 before an answer
 panel-test :
-    (c n : ℕ) (fails : Bool) (number : ℕ) (rest : Answer) → 35 ≤ number → number ≤ 36 → (fails ≡ false → PanelAnswer c n rest)
+    (c n : ℕ) (fails : Bool) (number : ℕ) (rest : Answer) → among number (35 ∷ 36 ∷ 74 ∷ []) ≡ true → (fails ≡ false → PanelAnswer c n rest)
     → PanelAnswer c n (refuse fails number 0 rest)
 unfolding PanelAnswer
-panel-test c n true number rest from to r = inr (from, to, refl)
-panel-test c n false number rest from to r = r refl
+panel-test c n true number rest there r = inr (there, refl)
+panel-test c n false number rest there r = r refl
 
-panel-answers : (p limit : ℕ) (words codes : List ℕ) → PanelAnswer (cellCount words) (length codes) (panelOf p limit words codes)
-unfolding panelOf
-panel-answers p limit words codes =
-    let c = cellCount words in
-    panel-test c (length codes) (eqb (length codes) 0) 35 _ (lit≤ tt) (lit≤ tt)
-    (λ some.
-    let codes-there : length codes ≡ 0 → ⊥ = eqb-false (length codes) 0 some in
-    panel-test c (length codes) (ltb 64 (length codes)) 36 _ (lit≤ tt) (lit≤ tt)
-    (λ few. walk-answers p limit words (length codes) codes 0 0 0 (omega arith) (omega arith) (λ one. absurd (omega arith)) (omega arith)))
+module _ (p limit : ℕ) (words holds codes : List ℕ) where
+  walk-answers : 0 < length codes → PanelAnswer (cellCount words) (length codes) (walkOf p limit words holds codes)
+  walk-answers some =
+      ⊎-elim
+      (λ (i, stops).
+      rw (stops .walked) (ended-answers _ _ i _ (stops .in-panel) (lookup-answers p limit words (getD codes i 0))))
+      (λ (x, goes).
+      let (s, i, u) = goes-on p limit words codes holds x (goes .none-ends x (goes .decides .in-panel)) in
+      rw (goes .walked) (found-answers _ _ _ (u .found) (lookup-answers p limit words (getD codes x 0))))
+      (walk-cases p limit words codes holds some)
+
+  panel-answers : PanelAnswer (cellCount words) (length codes) (panelOf p limit words holds codes)
+  unfolding panelOf among
+  panel-answers =
+      panel-test _ _ (eqb (length codes) 0) 35 _ refl
+      (λ some.
+      panel-test _ _ (ltb 64 (length codes)) 36 _ refl
+      (λ _.
+      panel-test _ _ (badHolds holds) 74 _ refl
+      (λ _. let no-codes = eqb-false (length codes) 0 some in walk-answers (omega arith))))
 
 pub answering : Answering
 unfolding among Check.tests Check.first-refusal

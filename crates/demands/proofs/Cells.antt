@@ -1,22 +1,20 @@
--- Where the glass lies: the cell of a code that is found, in the words, in what is read back, and in a panel.
+-- Where the glass lies: the cell of a code that is found, in the words and in what is read back.
 use Prim.Native.Nat.{ℕ, _<_}
 use native.Mathlib.Omega.{arith}
 use mathlib.Core.List.{List, [], _∷_}
 use mathlib.Core.Logic.{_↔_}
 use mathlib.Core.Path.{_≡_, sym, _∙_, ap}
-use lib.ListN.{getD}
 use Rattle.table.specs.Answers.{given}
 use Rattle.table.specs.Pairs.{codesOf, schedulesOf}
 use Rattle.table.specs.Words.{cellCount, cellCode}
 use Rattle.table.specs.Lookup.{lookupOf}
+use Rattle.table.proofs.Tells.{own-cell, stands-there}
 use Rattle.audit.specs.WellFormed.{WellFormed}
 use Rattle.audit.proofs.Lookups.{lookup-range, lookup-found}
 use Rattle.audit.proofs.WellFormed.{check-exactly}
 use Rattle.reader.specs.Pairs.{pairsIn}
 use Rattle.demands.specs.Lists.{Listed}
 use Rattle.demands.specs.Theorems.{Cells}
-use Rattle.demands.proofs.Lookups.{own-cell, stands-there, positive}
-use Rattle.demands.proofs.Panels.{panel-taken, panel-given}
 use Rattle.demands.proofs.Reading.{pairs-exactly}
 
 where-read :
@@ -43,18 +41,4 @@ cells =
       apart = λ words a b s t i e g.
           sym (stands-there 65537 2048 words a s i e .1) ∙ stands-there 65537 2048 words b t i g .1;
       where-read = λ words accept. where-read (check-exactly 65537 2048 words .0 accept);
-      panel-decided = λ words codes s i. (
-        λ e.
-            let (few, taken) = panel-taken 65537 2048 words codes s i e in
-            (few, record { index = taken .index; in-panel = taken .in-panel; found = taken .found; all-found = taken .all-found }),
-        λ (few, d).
-            panel-given 65537 2048 words codes s i few
-            (record {
-              index = d .index;
-              in-panel = d .in-panel;
-              found = d .found;
-              larger = positive 65537 2048 words (getD codes (d .index) 0) s i (d .found);
-              all-found = d .all-found;
-            }),
-      );
     }

@@ -1,6 +1,6 @@
 -- In reading order: the words that settle a lookup, and tables from anywhere; then the table of a list: its cells, that it is
--- well-formed, its multipliers, its lookups, its build, other orders of the list, and all together; edits; what a lookup tells, what decides a
--- panel, answers and cells; texts, test loads and files.
+-- well-formed, its multipliers, its lookups, its build, other orders of the list, and all together; edits; panels,
+-- answers and cells; texts, test loads and files.
 pub mod Settle
 pub mod Within
 pub mod Reading
@@ -14,7 +14,6 @@ pub mod BuildingBuild
 pub mod BuildingOrder
 pub mod Building
 pub mod Editing
-pub mod Lookups
 pub mod Panels
 pub mod Answering
 pub mod Cells

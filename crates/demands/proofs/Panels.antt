@@ -1,169 +1,361 @@
--- What decides a panel: the first of its codes with the largest schedule.
-use Prim.Native.Nat.{ℕ, zero, suc, max, _<_, _≤_}
+-- Panels by holds: what decides one, what ends it, which holds matter, and that rising holds leave it as it was.
+use Prim.Native.Nat.{ℕ, _+_, _-_, _<_, _≤_}
 use native.Mathlib.Decide.{decLt}
+use native.Mathlib.Nat.{le-antisymm, add-sub-cancel}
 use native.Mathlib.Omega.{arith}
-use mathlib.Core.Bool.{cond}
+use mathlib.Core.Bool.{false}
 use mathlib.Core.List.{List, [], _∷_}
-use mathlib.Core.Logic.{_⊎_, inl, inr, ⊎-elim}
-use mathlib.Core.Path.{_≡_, refl, sym, ap, ap₂, _∙_}
-use borrow.Author.Tests.{eqb-false, ne-eqb, lt-ltb, le-ltb, ltb-false}
-use lib.Dec.{eqb, ltb}
+use mathlib.Core.Logic.{_⊎_, _↔_, inl, inr, ⊎-elim}
+use mathlib.Core.Path.{_≡_, refl, sym, ap, _∙_}
+use borrow.Author.Tests.{eqb-true, eqb-false, eq-eqb, ne-eqb, lt-ltb, le-ltb, ltb-false}
+use lib.Dec.{eqb, ltb, lit≤}
 use lib.ListN.{length, getD}
-use Rattle.table.specs.Answers.{Answer, given, absent, unknown, refused}
-use Rattle.table.specs.Lookup.{lookupOf}
-use Rattle.table.proofs.Refusals.{never-both, refuse-passed}
-use Rattle.panel.specs.Panel.{walkOf, panelOf}
+use Rattle.hash.proofs.Indicators.{true-or-false}
+use Rattle.table.specs.Answers.{Answer, given, absent, unknown, refused, firstOf}
+use Rattle.table.specs.Numbers.{foundValueOf}
+use Rattle.table.proofs.First.{Below, first-found, first-none}
+use Rattle.table.proofs.Refusals.{never-both, refuse-not}
+use Rattle.table.proofs.Tells.{Tells, lookup-tells, lookup-stands}
+use Rattle.panel.specs.Panel.{holdOf, badHolds, ends, endedOf, largestOf, walkOf, panelOf}
+use Rattle.panel.proofs.Deciding.{Decides, largest-above, largest-reached}
+use Rattle.panel.proofs.Past.{right-holds, panel-past}
+use Rattle.panel.proofs.Walking.{answer, schedule, NoneEnds, goes-on, walk-decided, walk-ends, walk-cases}
 use Rattle.demands.specs.Lists.{FoundWith}
-use Rattle.demands.proofs.Lookups.{lookup-stands, positive}
+use Rattle.demands.specs.Panels.{RightHolds, Rising, DecidedBy, Met, notFound, walkByNumber, panelByNumber}
+use Rattle.demands.specs.Theorems.{Panels}
 
--- a property of the first of some numbers, and of every later one
-first-or-later : (P : ℕ → Type 0) {n : ℕ} → P 0 → ((y : ℕ) → y < n → P (suc y)) → (x : ℕ) → x < suc n → P x
-first-or-later P here later zero h = here
-first-or-later P here later (suc y) h = later y (omega arith)
+-- ---- 74
 
-module _ (p limit : ℕ) (words : List ℕ) where
-  -- the code with index x is found with a schedule of at most s
-  abbrev AtMost : List ℕ → ℕ → ℕ → Type 0
-  AtMost codes s x = (t : ℕ) × FoundWith p limit words (getD codes x 0) t × (t ≤ s)
+holds-right : (holds : List ℕ) → (badHolds holds ≡ false) ↔ RightHolds holds
+holds-right holds = (
+  λ e.
+      let (number, low) = right-holds holds .0 e in
+      record { number = number; at-most = λ s from to. low (s - 1) (omega arith) },
+  λ r.
+      let number = r .number in
+      right-holds holds .1 (number, λ i l. rw (add-sub-cancel i 1) at (r .at-most (i + 1) (omega arith) (omega arith))),
+)
 
-  -- and below s before an index
-  abbrev BelowBefore : List ℕ → ℕ → ℕ → ℕ → Type 0
-  BelowBefore codes s index x = (t : ℕ) × FoundWith p limit words (getD codes x 0) t × (t ≤ s) × (x < index → t < s)
+-- ---- an answer that is not the one supposed
 
-  -- the largest schedule before these codes is kept: they have none that is larger
-  record Kept (codes : List ℕ) (largest cell s i : ℕ) : Type 0 where
-    pub schedule-kept : s ≡ largest
-    pub cell-kept : i ≡ cell
-    pub all-found : (x : ℕ) → x < length codes → AtMost codes s x
+ended-given : {A : Type 0} (a : Answer) (i : ℕ) {values : List ℕ} → endedOf a i ≡ given values → A
+ended-given (given found) i e = never-both refl e
+ended-given absent i e = let z : _≡_ {A = ℕ} 0 1 = cc e in absurd (omega arith)
+ended-given (unknown j) i e = let z : _≡_ {A = ℕ} 0 1 = cc e in absurd (omega arith)
+ended-given (refused number value) i e = never-both refl e
 
-  -- one of these codes decides: the first with a schedule above that one and above all others
-  pub record Taken (codes : List ℕ) (largest s i : ℕ) : Type 0 where
-    pub index : ℕ
-    pub in-panel : index < length codes
-    pub found : lookupOf p limit words (getD codes index 0) ≡ given (s ∷ i ∷ [])
-    pub larger : largest < s
-    pub all-found : (x : ℕ) → x < length codes → BelowBefore codes s index x
+other-number : {number : ℕ} → number ≤ 74 → number ≡ 75 → ⊥
+other-number low same = omega arith
 
-  -- a code that is found, before the others
-  module _ (a : ℕ) (codes : List ℕ) (largest cell t at s i : ℕ) (e : lookupOf p limit words a ≡ given (t ∷ at ∷ [])) where
-    kept-first :
-        Kept codes (max largest t) (cond (ltb largest t) at cell) s i → Kept (a ∷ codes) largest cell s i ⊎ Taken (a ∷ codes) largest s i
-    kept-first k =
-        elim (decLt largest t) [
-          | yes l ↦
-              let same : s ≡ t = omega (arith, k .schedule-kept) in
-              let there : i ≡ at = rw (lt-ltb largest t l) at (k .cell-kept) in
-              inr
-              (record {
-                index = 0;
-                in-panel = omega arith;
-                found = rw (same, there) e;
-                larger = omega arith;
-                all-found =
-                    first-or-later (BelowBefore (a ∷ codes) s 0) (t, (at, e), omega arith, λ lt. absurd (omega arith))
-                    (λ y h. let (u, found, low) = k .all-found y h in (u, found, low, λ lt. absurd (omega arith)));
-              })
-          | no ge ↦
-              inl
-              (record {
-                schedule-kept = omega (arith, k .schedule-kept);
-                cell-kept = rw (le-ltb largest t (omega arith)) at (k .cell-kept);
-                all-found = first-or-later (AtMost (a ∷ codes) s) (t, (at, e), omega (arith, k .schedule-kept)) (k .all-found);
-              })
-        ]
+module _ (p limit : ℕ) (words codes : List ℕ) where
+  abbrev at-code : ℕ → Answer
+  at-code = answer p limit words codes
 
-    taken-later : Taken codes (max largest t) s i → Taken (a ∷ codes) largest s i
-    taken-later k =
+  abbrev named : ℕ → ℕ
+  named = schedule p limit words codes
+
+  module _ (holds : List ℕ) where
+    -- an answer that is none of 35, 36 and 74 is the walk's
+    passed :
+        {r : Answer} → ((number : ℕ) → number ≤ 74 → refused number 0 ≡ r → ⊥) → panelOf p limit words holds codes ≡ r
+        → (0 < length codes) × (length codes ≤ 64) × (badHolds holds ≡ false) × (walkOf p limit words holds codes ≡ r)
+    unfolding panelOf
+    passed other e =
+        let past-35 = refuse-not (eqb (length codes) 0) 35 0 _ (other 35 (lit≤ tt)) e in
+        let past-36 = refuse-not (ltb 64 (length codes)) 36 0 _ (other 36 (lit≤ tt)) (past-35 .1) in
+        let past-74 = refuse-not (badHolds holds) 74 0 _ (other 74 (lit≤ tt)) (past-36 .1) in
+        let some = eqb-false (length codes) 0 (past-35 .0) in
+        (omega arith, ltb-false 64 (length codes) (past-36 .0), past-74 .0, past-74 .1)
+
+    -- a code found with a schedule in use does not end it
+    used : (x t : ℕ) → FoundWith p limit words (getD codes x 0) t → 1 ≤ holdOf holds t → ends holds (at-code x) ≡ false
+    used x t (i, found) in-use = ap (ends holds) found ∙ ne-eqb (holdOf holds t) 0 (λ none. omega arith)
+
+    -- ---- what decides
+
+    decided-by : (s i x : ℕ) → NoneEnds p limit words codes holds (length codes) → Decides holds (length codes) named x
+        → at-code x ≡ given (s ∷ i ∷ []) → DecidedBy p limit words holds codes s i
+    decided-by s i x none decides found =
+        let its-name : named x ≡ s = ap foundValueOf found in
+        let (s′, i′, u) = goes-on p limit words codes holds x (none x (decides .in-panel)) in
+        let same : s′ ≡ s = sym (ap foundValueOf (u .found)) ∙ its-name in
         record {
-          index = suc (k .index);
-          in-panel = omega (arith, k .in-panel);
-          found = k .found;
-          larger = omega (arith, k .larger);
-          all-found =
-              first-or-later (BelowBefore (a ∷ codes) s (suc (k .index))) (t, (at, e), omega (arith, k .larger), λ lt. omega (arith, k .larger))
-              (λ y h. let (u, found, low, first) = k .all-found y h in (u, found, low, λ lt. first (omega arith)));
+          index = x;
+          in-panel = decides .in-panel;
+          found = found;
+          in-use = rw same at (u .in-use);
+          others = λ y l.
+              let (t, at, v) = goes-on p limit words codes holds y (none y l) in
+              let its : named y ≡ t = ap foundValueOf (v .found) in (
+                t,
+                (at, v .found),
+                v .in-use,
+                rw (its, its-name) at (decides .longest-hold y l),
+                λ e. rw (its, its-name) at (decides .least-number y l (ap (holdOf holds) its ∙ e ∙ sym (ap (holdOf holds) its-name))),
+                λ before e. decides .first-code y before (its ∙ e ∙ sym its-name),
+              );
         }
 
-    -- its answer, by what the codes after it answer
-    walk-on :
-        (j : ℕ) → (walkOf p limit words codes (suc j) (max largest t) (cond (ltb largest t) at cell) ≡ given (s ∷ i ∷ [])
-        → Kept codes (max largest t) (cond (ltb largest t) at cell) s i ⊎ Taken codes (max largest t) s i)
-        → walkOf p limit words (a ∷ codes) j largest cell ≡ given (s ∷ i ∷ []) → Kept (a ∷ codes) largest cell s i ⊎ Taken (a ∷ codes) largest s i
-    unfolding walkOf
-    walk-on j later g = ⊎-elim kept-first (λ k. inr (taken-later k)) (later (rw (e, walkOf) at g))
+    none-ended : {s i : ℕ} → DecidedBy p limit words holds codes s i → NoneEnds p limit words codes holds (length codes)
+    none-ended d x l = let (t, found, in-use, no-longer, no-less, another) = d .others x l in used x t found in-use
 
-  -- a code that is not found ends the walk without a result
-  walk-ends :
-      (a : ℕ) (codes : List ℕ) (j largest cell : ℕ) {values : List ℕ} (answer : Answer) → lookupOf p limit words a ≡ answer
-      → walkOf p limit words (a ∷ codes) j largest cell ≡ given values → (found : List ℕ) × (answer ≡ given found)
-  unfolding walkOf
-  walk-ends a codes j largest cell (given found) e g = (found, refl)
-  walk-ends a codes j largest cell absent e g = let z : _≡_ {A = ℕ} 0 1 = cc (rw (e, walkOf) at g) in absurd (omega arith)
-  walk-ends a codes j largest cell (unknown k) e g = let z : _≡_ {A = ℕ} 0 1 = cc (rw (e, walkOf) at g) in absurd (omega arith)
-  walk-ends a codes j largest cell (refused number value) e g = never-both refl (rw (e, walkOf) at g)
+    index-decides : {s i : ℕ} (d : DecidedBy p limit words holds codes s i) → Decides holds (length codes) named (d .index)
+    index-decides {s} {i} d =
+        let its-name : named (d .index) ≡ s = ap foundValueOf (d .found) in
+        record {
+          in-panel = d .in-panel;
+          longest-hold = λ y l.
+              let (t, found, in-use, no-longer, no-less, another) = d .others y l in
+              let its : named y ≡ t = ap foundValueOf (found .1) in
+              rw (its, its-name) no-longer;
+          least-number = λ y l e.
+              let (t, found, in-use, no-longer, no-less, another) = d .others y l in
+              let its : named y ≡ t = ap foundValueOf (found .1) in
+              rw (its, its-name) (no-less (sym (ap (holdOf holds) its) ∙ e ∙ ap (holdOf holds) its-name));
+          first-code = λ y before e.
+              let inside = d .in-panel in
+              let (t, found, in-use, no-longer, no-less, another) = d .others y (omega arith) in
+              let its : named y ≡ t = ap foundValueOf (found .1) in
+              another before (sym its ∙ e ∙ its-name);
+        }
 
-  -- the codes from index j on, with the largest schedule before them and its cell
-  walk-decided :
-      (codes : List ℕ) (j largest cell s i : ℕ) → walkOf p limit words codes j largest cell ≡ given (s ∷ i ∷ [])
-      → Kept codes largest cell s i ⊎ Taken codes largest s i
-  unfolding walkOf
-  walk-decided [] j largest cell s i e =
-      let same : s ≡ largest = cc in
-      let there : i ≡ cell = cc in
-      inl (record { schedule-kept = same; cell-kept = there; all-found = λ x h. absurd (omega arith) })
-  walk-decided (a ∷ codes) j largest cell s i e =
-      let (values, found) = walk-ends a codes j largest cell (lookupOf p limit words a) refl e in
-      walk-on a codes largest cell _ _ s i (found ∙ ap given (lookup-stands p words a limit found .found)) j
-      (walk-decided codes (suc j) _ _ s i)
-      e
+    decided : (s i : ℕ) → (panelOf p limit words holds codes ≡ given (s ∷ i ∷ [])) ↔ ((length codes ≤ 64) × RightHolds holds × DecidedBy p limit words holds codes s i)
+    decided s i = (
+      λ e.
+          let (some, few, right, walked) = passed (λ number _ same. never-both (sym same) refl) e in (
+            few,
+            holds-right holds .0 right,
+            ⊎-elim
+                (λ (j, stops). ended-given (at-code j) j (sym (stops .walked) ∙ walked))
+                (λ (x, goes). decided-by s i x (goes .none-ends) (goes .decides) (sym (goes .walked) ∙ walked))
+                (walk-cases p limit words codes holds some),
+          ),
+      λ (few, right, d).
+          let inside = d .in-panel in
+          panel-past p limit words holds codes (λ none. omega arith) few (holds-right holds .1 right)
+          ∙ walk-decided p limit words codes holds (d .index) (none-ended d) (index-decides d)
+          ∙ d .found,
+    )
 
-  pub panel-taken : (codes : List ℕ) (s i : ℕ) → panelOf p limit words codes ≡ given (s ∷ i ∷ []) → (length codes ≤ 64) × Taken codes 0 s i
-  unfolding panelOf
-  panel-taken codes s i e =
-      let past-35 = refuse-passed (eqb (length codes) 0) 35 0 _ _ e in
-      let past-36 = refuse-passed (ltb 64 (length codes)) 36 0 _ _ (past-35 .1) in
-      let taken : Taken codes 0 s i =
-      ⊎-elim
-      (λ k.
-      let some : length codes ≡ 0 → ⊥ = eqb-false (length codes) 0 (past-35 .0) in
-      let (t, (at, found), low) = k .all-found 0 (omega arith) in
-      absurd (omega (arith, k .schedule-kept, positive p limit words (getD codes 0 0) t at found)))
-      (λ k. k)
-      (walk-decided codes 0 0 0 s i (past-36 .1)) in
-      (ltb-false 64 (length codes) (past-36 .0), taken)
+    -- ---- what ends it
 
-  -- where all codes are found, a walk has a result
-  walk-found :
-      (codes : List ℕ) (j largest cell : ℕ) → ((x : ℕ) → x < length codes → (t : ℕ) × FoundWith p limit words (getD codes x 0) t)
-      → (s : ℕ) × (i : ℕ) × (walkOf p limit words codes j largest cell ≡ given (s ∷ i ∷ []))
-  unfolding walkOf
-  walk-found [] j largest cell all = (largest, cell, refl)
-  walk-found (a ∷ codes) j largest cell all =
-      let (t, (at, e)) = all 0 (omega arith) in
-      let (s, i, rest) = walk-found codes (suc j) (max largest t) (cond (ltb largest t) at cell) (λ y h. all (suc y) (omega arith)) in
-      (s, i, rw (e, walkOf) rest)
+    ended-number :
+        (code i : ℕ) (a : Answer) {number value : ℕ} → Tells p words code a → endedOf a i ≡ refused number value
+        → (value ≡ i) × (((number ≡ 75) × ((values : List ℕ) × (a ≡ given values))) ⊎ (number ≤ 34))
+    unfolding Tells
+    ended-number code i (given values) t e = (cc, inl (cc, (values, refl)))
+    ended-number code i absent t e = let z : _≡_ {A = ℕ} 0 1 = cc e in absurd (omega arith)
+    ended-number code i (unknown j) t e = absurd t
+    ended-number code i (refused number′ value′) {number = number} (from, to, none) e =
+        let same : number′ ≡ number = cc e in
+        (cc, inr (omega arith))
 
-  -- no other code decides
-  decided-once : (codes : List ℕ) (s i s′ i′ : ℕ) → Taken codes 0 s i → Taken codes 0 s′ i′ → (s ≡ s′) × (i ≡ i′)
-  decided-once codes s i s′ i′ one other =
-      let (t, (at, e), low, first) = one .all-found (other .index) (other .in-panel) in
-      let (t′, (at′, e′), low′, first′) = other .all-found (one .index) (one .in-panel) in
-      let there : t ≡ s′ = cc (other .found) in
-      let there′ : t′ ≡ s = cc (one .found) in
-      let index : one .index ≡ other .index =
-      elim (decLt (one .index) (other .index)) [
-        | yes l ↦ absurd (omega (arith, first′ l))
-        | no ge ↦ elim (decLt (other .index) (one .index)) [ yes l ↦ absurd (omega (arith, first l)) | no le ↦ omega arith ]
-      ] in
-      let same : given (s ∷ i ∷ []) ≡ given (s′ ∷ i′ ∷ []) =
-      sym (one .found) ∙ ap (λ (x : ℕ). lookupOf p limit words (getD codes x 0)) index ∙ other .found in
-      (cc, cc)
+    -- by 75 only where a schedule that is not in use is met, and never by 74
+    walk-refused :
+        {number value : ℕ} → 0 < length codes → walkOf p limit words holds codes ≡ refused number value
+        → (number ≤ 34) ⊎ ((number ≡ 75) × ((s : ℕ) × Met p limit words holds codes value s × (holdOf holds s ≡ 0)))
+    walk-refused some e =
+        ⊎-elim
+        (λ (i, stops).
+        let (there, how) = ended-number (getD codes i 0) i (at-code i) (lookup-tells p words (getD codes i 0) limit) (sym (stops .walked) ∙ e) in
+        ⊎-elim
+        (λ (by-75, (values, found)).
+        let stands = lookup-stands p words (getD codes i 0) limit found in
+        let found′ = found ∙ ap given (stands .found) in
+        inr (
+          by-75,
+          (
+            _,
+            rw there
+                (record {
+                  in-panel = stops .in-panel;
+                  found = (_, found′);
+                  before = λ x l. let (t, at, u) = goes-on p limit words codes holds x (stops .before x l) in (t, (at, u .found), u .in-use);
+                }),
+            eqb-true _ 0 (ap (ends holds) (sym found′) ∙ stops .ended),
+          ),
+        ))
+        inl
+        how)
+        (λ (x, goes).
+        let (s, i, u) = goes-on p limit words codes holds x (goes .none-ends x (goes .decides .in-panel)) in
+        never-both (sym (goes .walked) ∙ e) (u .found))
+        (walk-cases p limit words codes holds some)
 
-  pub panel-given : (codes : List ℕ) (s i : ℕ) → length codes ≤ 64 → Taken codes 0 s i → panelOf p limit words codes ≡ given (s ∷ i ∷ [])
-  unfolding panelOf
-  panel-given codes s i few taken =
-      let (s′, i′, e) = walk-found codes 0 0 0 (λ x h. let (t, found, low, first) = taken .all-found x h in (t, found)) in
-      let told : panelOf p limit words codes ≡ given (s′ ∷ i′ ∷ []) =
-      rw (ne-eqb (length codes) 0 (λ none. omega (arith, taken .in-panel)), le-ltb 64 (length codes) few) e in
-      let (schedule, cell) = decided-once codes s i s′ i′ taken (panel-taken codes s′ i′ told .1) in
-      told ∙ ap₂ (λ (x y : ℕ). given (x ∷ y ∷ [])) (sym schedule) (sym cell)
+    not-in-use :
+        (i : ℕ)
+        → (panelOf p limit words holds codes ≡ refused 75 i)
+        ↔ ((length codes ≤ 64) × RightHolds holds × ((s : ℕ) × Met p limit words holds codes i s × (holdOf holds s ≡ 0)))
+    not-in-use i = (
+      λ e.
+          let (some, few, right, walked) = passed (λ number low same. other-number low cc) e in
+          (few, holds-right holds .0 right, ⊎-elim (λ low. absurd (omega arith)) (λ (_, met). met) (walk-refused some walked)),
+      λ (few, right, (s, met, unused)).
+          let inside = met .in-panel in
+          panel-past p limit words holds codes (λ none. omega arith) few (holds-right holds .1 right)
+          ∙ sym
+          (walk-ends p limit words codes holds i _ inside (λ x l. let (t, found, in-use) = met .before x l in used x t found in-use)
+          (sym (met .found .1))
+          (eq-eqb (holdOf holds s) 0 unused)),
+    )
+
+    bad-holds : 1 ≤ length codes → length codes ≤ 64 → (panelOf p limit words holds codes ≡ refused 74 0) ↔ (RightHolds holds → ⊥)
+    unfolding panelOf
+    bad-holds some few = (
+      λ e right.
+          let walked = sym (panel-past p limit words holds codes (λ none. omega arith) few (holds-right holds .1 right)) ∙ e in
+          ⊎-elim (λ low. omega arith) (λ (by-75, _). omega arith) (walk-refused some walked),
+      λ wrong.
+          ⊎-elim
+          (λ bad. rw (ne-eqb (length codes) 0 (λ none. omega arith), le-ltb 64 (length codes) few, bad))
+          (λ right. absurd (wrong (holds-right holds .0 right)))
+          (true-or-false (badHolds holds)),
+    )
+
+    -- ---- which holds matter
+
+    -- where no code ends it, each is met
+    met-there :
+        (x : ℕ) → x < length codes → NoneEnds p limit words codes holds x → (s i : ℕ)
+        → at-code x ≡ given (s ∷ i ∷ []) → Met p limit words holds codes x s
+    met-there x l below s i found =
+        record {
+          in-panel = l;
+          found = (i, found);
+          before = λ y m. let (t, at, u) = goes-on p limit words codes holds y (below y m) in (t, (at, u .found), u .in-use);
+        }
+
+    module _ (others : List ℕ) (same : (i s : ℕ) → Met p limit words holds codes i s → holdOf others s ≡ holdOf holds s) where
+      -- a code that the walk comes to ends it by both holds or by neither
+      ends-same :
+          (x : ℕ) → x < length codes → NoneEnds p limit words codes holds x → (a : Answer)
+          → at-code x ≡ a → ends others a ≡ ends holds a
+      ends-same x l below (given values) e =
+          let stands = lookup-stands p words (getD codes x 0) limit e in
+          let its = same x _ (met-there x l below _ _ (e ∙ ap given (stands .found))) in
+          rw (stands .found) (ap (λ (h : ℕ). eqb h 0) its)
+      ends-same x l below absent e = refl
+      ends-same x l below (unknown i) e = refl
+      ends-same x l below (refused number value) e = refl
+
+      held-same : NoneEnds p limit words codes holds (length codes) → (y : ℕ) → y < length codes
+          → holdOf others (named y) ≡ holdOf holds (named y)
+      held-same none y l =
+          let (s, i, u) = goes-on p limit words codes holds y (none y l) in
+          let its = same y s (met-there y l (λ z m. none z (omega arith)) s i (u .found)) in
+          rw (ap foundValueOf (u .found)) its
+
+      walk-same : 0 < length codes → walkOf p limit words others codes ≡ walkOf p limit words holds codes
+      walk-same some =
+          ⊎-elim
+          (λ (i, stops).
+          let inside = stops .in-panel in
+          let still : Below (λ y. ends others (at-code y)) i =
+          λ y l. ends-same y (omega arith) (λ z m. stops .before z (omega arith)) _ refl ∙ stops .before y l in
+          sym (walk-ends p limit words codes others i _ inside still refl (ends-same i inside (stops .before) _ refl ∙ stops .ended)) ∙ sym (stops .walked))
+          (λ (x, goes).
+          let none = goes .none-ends in
+          let d = goes .decides in
+          walk-decided p limit words codes others x (λ y l. ends-same y l (λ z m. none z (omega arith)) _ refl ∙ none y l)
+          (record {
+            in-panel = d .in-panel;
+            longest-hold = λ y l. rw (held-same none y l, held-same none x (d .in-panel)) (d .longest-hold y l);
+            least-number = λ y l e. d .least-number y l (sym (held-same none y l) ∙ e ∙ held-same none x (d .in-panel));
+            first-code = d .first-code;
+          })
+          ∙ sym (goes .walked))
+          (walk-cases p limit words codes holds some)
+
+      met : badHolds holds ≡ false → badHolds others ≡ false → panelOf p limit words others codes ≡ panelOf p limit words holds codes
+      unfolding panelOf
+      met right right′ =
+          ⊎-elim
+          (λ none. rw none)
+          (λ some. let there = eqb-false (length codes) 0 some in rw (right, right′, walk-same (omega arith)))
+          (true-or-false (eqb (length codes) 0))
+
+    -- ---- holds that rise with the number
+
+    module _ (rising : Rising holds) where
+      positive : {h : ℕ} → 1 ≤ h → h ≡ 0 → ⊥
+      positive low none = omega arith
+
+      -- a code that is found is in use
+      ends-unfound :
+          (x : ℕ) (a : Answer) → at-code x ≡ a → ends holds a ≡ notFound a
+      ends-unfound x (given values) e =
+          let stands = lookup-stands p words (getD codes x 0) limit e in
+          let in-use = rising .in-use _ (stands .from-one) (stands .to-999) in
+          rw (stands .found) (ne-eqb (holdOf holds _) 0 (λ none. absurd (positive in-use none)))
+      ends-unfound x absent e = refl
+      ends-unfound x (unknown i) e = refl
+      ends-unfound x (refused number value) e = refl
+
+      in-range :
+          NoneEnds p limit words codes holds (length codes) → (y : ℕ) → y < length codes
+          → (1 ≤ named y) × (named y ≤ 999)
+      in-range none y l =
+          let (s, i, u) = goes-on p limit words codes holds y (none y l) in
+          rw (ap foundValueOf (u .found)) (u .range)
+
+      -- no schedule is above one whose hold is the longest
+      no-larger : (s t : ℕ) → (1 ≤ s) × (s ≤ 999) → (1 ≤ t) × (t ≤ 999) → holdOf holds t ≤ holdOf holds s → t ≤ s
+      no-larger s t (from, to) (from′, to′) no-longer =
+          elim (decLt s t) [ yes l ↦ let longer = rising .rise s t from l to′ in absurd (omega arith) | no ge ↦ omega arith ]
+
+      -- a code that decides is the first with the largest schedule
+      first-largest :
+          (x : ℕ) → NoneEnds p limit words codes holds (length codes)
+          → Decides holds (length codes) named x
+          → firstOf (length codes) (λ y. eqb (named y) (largestOf (length codes) named)) ≡ x
+      first-largest x none d =
+          let inside = d .in-panel in
+          let (y, below, reached) = largest-reached (length codes) named (omega arith) in
+          let its : largestOf (length codes) named ≡ named x =
+          le-antisymm (rw reached at (no-larger _ _ (in-range none x inside) (in-range none y below) (d .longest-hold y below)))
+          (largest-above (length codes) named x inside) in
+          first-found (length codes) _ x inside
+          (λ z l. ne-eqb _ _ (λ e. d .first-code z l (e ∙ its)))
+          (eq-eqb _ _ (sym its))
+
+      walk-by-number : 0 < length codes → walkOf p limit words holds codes ≡ walkByNumber p limit words codes
+      unfolding walkByNumber
+      walk-by-number some =
+          ⊎-elim
+          (λ (i, stops).
+          let inside = stops .in-panel in
+          stops .walked
+          ∙ sym
+          (rw (
+            first-found (length codes) (λ x. notFound (at-code x)) i inside
+                (λ y l. sym (ends-unfound y _ refl) ∙ stops .before y l)
+                (sym (ends-unfound i _ refl) ∙ stops .ended),
+            lt-ltb i (length codes) inside,
+          )))
+          (λ (x, goes).
+          goes .walked
+          ∙ sym
+          (rw (
+            first-none (length codes) (λ x. notFound (at-code x)) (λ y l. sym (ends-unfound y _ refl) ∙ goes .none-ends y l),
+            le-ltb (length codes) (length codes) (omega arith),
+            first-largest x (goes .none-ends) (goes .decides),
+          )))
+          (walk-cases p limit words codes holds some)
+
+      by-number : badHolds holds ≡ false → panelOf p limit words holds codes ≡ panelByNumber p limit words codes
+      unfolding panelOf panelByNumber
+      by-number right =
+          ⊎-elim
+          (λ none. rw none)
+          (λ some. let there = eqb-false (length codes) 0 some in rw (right, walk-by-number (omega arith)))
+          (true-or-false (eqb (length codes) 0))
+
+pub panels : Panels
+panels =
+    record {
+      decided = λ words holds codes. decided 65537 2048 words codes holds;
+      bad-holds = λ words holds codes. bad-holds 65537 2048 words codes holds;
+      not-in-use = λ words holds codes. not-in-use 65537 2048 words codes holds;
+      met = λ words holds others codes right right′ same. met 65537 2048 words codes holds others same (holds-right holds .1 right) (holds-right others .1 right′);
+      by-number = λ words holds codes right rising. by-number 65537 2048 words codes holds rising (holds-right holds .1 right);
+    }

@@ -1,5 +1,5 @@
 -- Every record of specs/Theorems.antt, by its proof.
-use Rattle.demands.specs.Theorems.{Answering, Keeping, Exporting, Reading, Building, Editing, Texts, TestLoads, Files, Cells}
+use Rattle.demands.specs.Theorems.{Answering, Keeping, Exporting, Reading, Building, Editing, Texts, TestLoads, Files, Cells, Panels}
 use Rattle.demands.proofs.Answering as on-answers
 use Rattle.demands.proofs.Keeping as on-refusals
 use Rattle.demands.proofs.Reading as on-reading
@@ -9,6 +9,7 @@ use Rattle.demands.proofs.Texts as on-texts
 use Rattle.demands.proofs.TestLoads as on-test-loads
 use Rattle.demands.proofs.Files as on-files
 use Rattle.demands.proofs.Cells as on-cells
+use Rattle.demands.proofs.Panels as on-panels
 
 -- demand 1: what each operation answers, and that a refusal keeps lent memory
 pub answering : Answering
@@ -47,3 +48,7 @@ files = on-files.files
 -- where the glass lies
 pub cells : Cells
 cells = on-cells.cells
+
+-- holds decide the panel
+pub panels : Panels
+panels = on-panels.panels

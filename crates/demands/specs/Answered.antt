@@ -33,13 +33,14 @@ LookupAnswer c absent = Unit {0}
 LookupAnswer c (unknown i) = ⊥
 LookupAnswer c (refused number value) = (31 ≤ number) × (number ≤ 34) × (value ≡ 0)
 
--- the answers of a panel of n codes: a schedule, unknown with an index, 31 to 34 with an index, or 35 and 36 with 0
+-- the answers of a panel of n codes: a schedule, unknown with an index, 31 to 34 and 75 with an index, or 35, 36 and 74 with 0
 unfoldable pub PanelAnswer : ℕ → ℕ → Answer → Type 0
+unfolding among
 PanelAnswer c n (given values) = InCell c values
 PanelAnswer c n absent = ⊥
 PanelAnswer c n (unknown i) = i < n
 PanelAnswer c n (refused number value) =
-    ((31 ≤ number) × (number ≤ 34) × (value < n)) ⊎ ((35 ≤ number) × (number ≤ 36) × (value ≡ 0))
+    ((((31 ≤ number) × (number ≤ 34)) ⊎ (number ≡ 75)) × (value < n)) ⊎ ((among number (35 ∷ 36 ∷ 74 ∷ []) ≡ true) × (value ≡ 0))
 
 -- what C sees of a call that fills lent memory, by the number and the value shown: with 0 this value, and the memory filled; with any other number the
 -- memory as it was

@@ -1,4 +1,5 @@
 -- What the statements speak of, and the statements.
 pub mod Lists
 pub mod Answered
+pub mod Panels
 pub mod Theorems

@@ -15,7 +15,7 @@ use Rattle.table.specs.TwoLevel.{wordsNeeded, tableOf}
 use Rattle.table.specs.Lookup.{lookupOf}
 use Rattle.table.specs.declared.answers.Numbered.{Numbered}
 use Rattle.table.specs.declared.answers.NumberedSize.{NumberedSize}
-use Rattle.panel.specs.Panel.{panelOf}
+use Rattle.panel.specs.Panel.{holdOf, panelOf}
 use Rattle.audit.specs.Check.{checkOf}
 use Rattle.audit.specs.WellFormed.{WellFormed}
 use Rattle.table.specs.Pairs.{Pair, codesOf, schedulesOf, paired}
@@ -32,6 +32,7 @@ use Rattle.glass_c.specs.Exports.{BuildShown, PairsShown, InsertShown, RemoveSh
 use Rattle.lists.specs.Valid.{Valid}
 use Rattle.demands.specs.Lists.{Listed, SamePairs, FoundWith, rightAnswer, enough, AgreeAt, lookedAt, AllWords, AllBytes}
 use Rattle.demands.specs.Answered.{IsRefusal, ResultOr, LookupAnswer, PanelAnswer, FilledOrKept, scheduleAlone, readAs}
+use Rattle.demands.specs.Panels.{RightHolds, Rising, DecidedBy, Met, panelByNumber}
 
 -- the refusals of a check: those that come with 0, and the others
 abbrev pub checkAlone : List ℕ
@@ -51,8 +52,8 @@ pub record Answering : Type 0 where
       (words : List ℕ) → ResultOr (codeCount words ∷ total words ∷ []) checkAlone checkValued (checkOf 65537 2048 words)
   -- look up: found with a schedule from 1 to 999 and a cell below c, absent, or 31 to 34 with 0
   pub lookup : (words : List ℕ) (a : ℕ) → LookupAnswer (cellCount words) (lookupOf 65537 2048 words a)
-  -- panel: a schedule from 1 to 999 and a cell below c, unknown or 31 to 34 with an index, or 35 and 36
-  pub panel : (words codes : List ℕ) → PanelAnswer (cellCount words) (length codes) (panelOf 65537 2048 words codes)
+  -- panel: a schedule from 1 to 999 and a cell below c, unknown, 31 to 34 or 75 with an index, or 35, 36 and 74
+  pub panel : (words holds codes : List ℕ) → PanelAnswer (cellCount words) (length codes) (panelOf 65537 2048 words holds codes)
   -- read back: n, a refusal of the check, or 41
   pub pairs :
       (words codes schedules : List ℕ)
@@ -457,14 +458,6 @@ pub record Files : Type 0 where
       (words : List ℕ) → AllWords words → length words ≤ 16384
       → listingOf 65537 2048 (bytesOf words) ≡ textOf (checkOf 65537 2048 words) words
 
--- what decides a panel: a code found with this schedule in this cell, where every code is found, none with a larger schedule, and none before it
--- with the same
-pub record DecidedBy (words codes : List ℕ) (s i : ℕ) : Type 0 where
-  pub index : ℕ
-  pub in-panel : index < length codes
-  pub found : lookupOf 65537 2048 words (getD codes index 0) ≡ given (s ∷ i ∷ [])
-  pub all-found : (x : ℕ) → x < length codes → (t : ℕ) × FoundWith 65537 2048 words (getD codes x 0) t × (t ≤ s) × (x < index → t < s)
-
 -- Document 02, Change 4: where the glass lies
 pub record Cells : Type 0 where
   -- in any words, checked or not, a code that is found stands with its schedule in the cell that is answered, one of the c
@@ -482,7 +475,29 @@ pub record Cells : Type 0 where
       (words : List ℕ) → Accepted words → (a s i : ℕ)
       → (lookupOf 65537 2048 words a ≡ given (s ∷ i ∷ []))
       ↔ (Listed (codesOf (pairsIn words)) (schedulesOf (pairsIn words)) a s × (i < cellCount words) × (cellCode words i ≡ a))
-  -- a panel answers the schedule and the cell of the first of its codes with the largest schedule, exactly where all are found
-  pub panel-decided :
-      (words codes : List ℕ) (s i : ℕ)
-      → (panelOf 65537 2048 words codes ≡ given (s ∷ i ∷ [])) ↔ ((length codes ≤ 64) × DecidedBy words codes s i)
+
+-- Document 02, Change 5: holds decide the panel
+pub record Panels : Type 0 where
+  -- a panel answers s and cell i exactly if it has at most 64 codes, the holds are right, and a code found with s in i decides
+  pub decided :
+      (words holds codes : List ℕ) (s i : ℕ)
+      → (panelOf 65537 2048 words holds codes ≡ given (s ∷ i ∷ []))
+      ↔ ((length codes ≤ 64) × RightHolds holds × DecidedBy 65537 2048 words holds codes s i)
+  -- a panel of 1 to 64 codes is refused by 74 exactly if the holds are not right, whatever the words and the codes
+  pub bad-holds :
+      (words holds codes : List ℕ) → 1 ≤ length codes → length codes ≤ 64
+      → (panelOf 65537 2048 words holds codes ≡ refused 74 0) ↔ (RightHolds holds → ⊥)
+  -- and by 75 with an index exactly if the panel meets a schedule there that is not in use
+  pub not-in-use :
+      (words holds codes : List ℕ) (i : ℕ)
+      → (panelOf 65537 2048 words holds codes ≡ refused 75 i)
+      ↔ ((length codes ≤ 64) × RightHolds holds × ((s : ℕ) × Met 65537 2048 words holds codes i s × (holdOf holds s ≡ 0)))
+  -- the holds of schedules that are not met do not matter
+  pub met :
+      (words holds others codes : List ℕ) → RightHolds holds → RightHolds others
+      → ((i s : ℕ) → Met 65537 2048 words holds codes i s → holdOf others s ≡ holdOf holds s)
+      → panelOf 65537 2048 words others codes ≡ panelOf 65537 2048 words holds codes
+  -- with holds that all are in use and rise with the number, a panel answers as it did without them
+  pub by-number :
+      (words holds codes : List ℕ) → RightHolds holds → Rising holds
+      → panelOf 65537 2048 words holds codes ≡ panelByNumber 65537 2048 words codes

@@ -31,10 +31,10 @@ pub extern "C" fn glass_lookup(words: &[u32], code: u32) -> NumberedFound
 }
 
 #[no_mangle]
-pub extern "C" fn glass_panel(words: &[u32], codes: &[u32]) -> NumberedFound
-    ensures { λ r. ⌜ FoundShown (panelOf 65537 mostPairs (now (words .entry)) (now (codes .entry))) r ⌝ }
+pub extern "C" fn glass_panel(words: &[u32], holds: &[u32], codes: &[u32]) -> NumberedFound
+    ensures { λ r. ⌜ FoundShown (panelOf 65537 mostPairs (now (words .entry)) (now (holds .entry)) (now (codes .entry))) r ⌝ }
 {
-    panel::numbered::numbered(panel::panel(words, codes))
+    panel::numbered::numbered(panel::panel(words, holds, codes))
 }
 
 #[no_mangle]

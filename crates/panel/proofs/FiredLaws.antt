@@ -6,7 +6,7 @@ use lib.ListN.{getD}
 use Rattle.table.specs.Answers.{Answer, given, absent, unknown, refused}
 use Rattle.panel.specs.Fired.{firedOf}
 use Rattle.panel.specs.declared.Fired.{Fired}
-use Rattle.panel.specs.declared.Fired.the-variants.{Schedule, Unknown, CodeOutOfRange, TooFewWords, BadSizes, BadBlock, NoCodes, TooManyCodes}
+use Rattle.panel.specs.declared.Fired.the-variants.{Schedule, Unknown, CodeOutOfRange, TooFewWords, BadSizes, BadBlock, NotInUse, NoCodes, TooManyCodes, BadHolds}
 
 told : Answer → Fired
 told (given values) = Schedule (getD values 0 0) (getD values 1 0)
@@ -17,7 +17,9 @@ told (refused number i) =
     (cond (eqb number 32) (TooFewWords i)
     (cond (eqb number 33) (BadSizes i)
     (cond (eqb number 34) (BadBlock i)
-    (cond (eqb number 35) NoCodes TooManyCodes))))
+    (cond (eqb number 75) (NotInUse i)
+    (cond (eqb number 35) NoCodes
+    (cond (eqb number 36) TooManyCodes BadHolds))))))
 
 told-fired : (f : Fired) → told (firedOf f) ≡ f
 unfolding told
@@ -29,8 +31,10 @@ told-fired f =
       | TooFewWords i ↦ refl
       | BadSizes i ↦ refl
       | BadBlock i ↦ refl
+      | NotInUse i ↦ refl
       | NoCodes ↦ refl
       | TooManyCodes ↦ refl
+      | BadHolds ↦ refl
     ]
 
 pub fired-injective : (a b : Fired) → firedOf a ≡ firedOf b → a ≡ b

@@ -1,2 +1,2 @@
--- How a walk ends.
-pub mod Ended
+-- What a walk keeps.
+pub mod Decided

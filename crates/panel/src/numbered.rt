@@ -31,5 +31,7 @@ pub fn numbered(f: Fired) -> NumberedFound
         Fired::BadBlock(i) => without_cell(34, i),
         Fired::NoCodes => without_cell(35, 0),
         Fired::TooManyCodes => without_cell(36, 0),
+        Fired::BadHolds => without_cell(74, 0),
+        Fired::NotInUse(i) => without_cell(75, i),
     }
 }

@@ -1,5 +1,5 @@
-// The cases of document 01 that are run: ranges at their ends and one beyond, the largest list and one more, panels at their ends. Each line is the
-// case, then the number and the value that C sees, and of a lookup or a panel the cell.
+// The cases of document 01 that are run: ranges at their ends and one beyond, the largest list and one more, panels and holds at their ends. Each line is
+// the case, then the number and the value that C sees, and of a lookup or a panel the cell.
 ghost use Prim.Native.Nat.{_≤_};
 ghost use lib.ListN.{length};
 use table::answers::Numbered;
@@ -84,12 +84,44 @@ fn lookup(a: u32) {
     print_found(b"lookup ", a, glass_c::glass_lookup(&words, a));
 }
 
-// The panel of 1 and this code.
+// The panel of 1 and this code, by holds that rise with the number.
 fn panel_with(a: u32) {
     let mut words = [0u32; 15];
     ends(&mut words);
+    let mut holds = [0u32; 999];
+    count_up(&mut holds);
     let codes = [1, a];
-    print_found(b"panel 1 ", a, glass_c::glass_panel(&words, &codes));
+    print_found(b"panel 1 ", a, glass_c::glass_panel(&words, &holds, &codes));
+}
+
+// The panel of 65,536 and 1 by these holds.
+fn fire(holds: &[u32]) -> NumberedFound {
+    let mut words = [0u32; 15];
+    ends(&mut words);
+    let codes = [65536, 1];
+    glass_c::glass_panel(&words, holds, &codes)
+}
+
+// So many holds of 60 minutes.
+fn number_of_holds(n: usize)
+    requires { ⌜ n ≤ 1000 ⌝ }
+{
+    let holds = [60u32; 1000];
+    print_found(b"holds ", n as u32, fire(&holds[..n]));
+}
+
+// The hold of schedule 1, where all others are 60 minutes.
+fn first_hold(minutes: u32) {
+    let mut holds = [60u32; 999];
+    holds[0] = minutes;
+    print_found(b"first hold ", minutes, fire(&holds));
+}
+
+// The same of schedule 999.
+fn last_hold(minutes: u32) {
+    let mut holds = [60u32; 999];
+    holds[998] = minutes;
+    print_found(b"last hold ", minutes, fire(&holds));
 }
 
 // The table of 7 with 500.
@@ -152,10 +184,10 @@ fn numbered(n: usize, codes: &[u32], words: &mut [u32])
 }
 
 // The panel of the first n codes.
-fn panel(n: usize, words: &[u32], codes: &[u32])
+fn panel(n: usize, words: &[u32], holds: &[u32], codes: &[u32])
     requires { ⌜ (n ≤ 65) × (n ≤ length (now codes)) ⌝ }
 {
-    let a = glass_c::glass_panel(words, &codes[..n]);
+    let a = glass_c::glass_panel(words, holds, &codes[..n]);
     print_found(b"panel ", n as u32, a);
 }
 
@@ -176,12 +208,20 @@ fn lists() {
     pairs(0, &codes, &schedules);
     pairs(2048, &codes, &schedules);
     pairs(2049, &codes, &schedules);
+}
+
+// Panels of the first codes, by holds that rise with the number.
+fn panels() {
+    let mut codes = [0u32; 65];
+    count_up(&mut codes);
+    let mut holds = [0u32; 999];
+    count_up(&mut holds);
     let mut words = [0u32; 512];
     numbered(64, &codes, &mut words);
-    panel(0, &words, &codes);
-    panel(1, &words, &codes);
-    panel(64, &words, &codes);
-    panel(65, &words, &codes);
+    panel(0, &words, &holds, &codes);
+    panel(1, &words, &holds, &codes);
+    panel(64, &words, &holds, &codes);
+    panel(65, &words, &holds, &codes);
 }
 
 fn main() {
@@ -203,6 +243,20 @@ fn main() {
     panel_with(2);
     panel_with(65536);
     panel_with(65537);
+    number_of_holds(998);
+    number_of_holds(999);
+    number_of_holds(1000);
+    first_hold(0);
+    first_hold(1);
+    first_hold(60);
+    first_hold(10080);
+    first_hold(10081);
+    last_hold(0);
+    last_hold(60);
+    last_hold(61);
+    last_hold(10080);
+    last_hold(10081);
+    last_hold(4294967295);
     insert_code(0);
     insert_code(1);
     insert_code(65536);
@@ -218,4 +272,5 @@ fn main() {
     remove(65537);
     largest();
     lists();
+    panels();
 }

@@ -81,18 +81,30 @@ first-end n test i le ge below = first-only (record { within = le; below = below
 pub first-none : (n : ℕ) (test : ℕ → Bool) → Below test n → firstOf n test ≡ n
 first-none n test below = first-end n test n (omega arith) (omega arith) below
 
+-- where it holds of a number, the first is that one or before it
+pub first-upto : (n : ℕ) (test : ℕ → Bool) (i : ℕ) → i < n → test i ≡ true → firstOf n test ≤ i
+first-upto n test i l holds =
+    elim (decLt i (firstOf n test)) [
+      | yes before ↦ absurd (true≢false (sym holds ∙ first-is n test .below i before))
+      | no ge ↦ omega arith
+    ]
+
 -- `refuseFirst` refuses nothing exactly where the test fails below n
 pub none-refused : (n : ℕ) (test : ℕ → Bool) → (ltb (firstOf n test) n ≡ false) ↔ Below test n
 none-refused n test =
     (λ e j l. first-is n test .below j (omega (arith, ltb-false (firstOf n test) n e)), λ below. rw (first-none n test below) (le-ltb n n (omega arith)))
 
--- tests that agree below n have the same first
-pub first-ext : (n : ℕ) (f g : ℕ → Bool) → ((i : ℕ) → i < n → f i ≡ g i) → firstOf n f ≡ firstOf n g
-first-ext n f g same =
+-- tests that agree up to the first of one have the same first
+pub first-agree : (n : ℕ) (f g : ℕ → Bool) → ((i : ℕ) → i < n → i ≤ firstOf n g → f i ≡ g i) → firstOf n f ≡ firstOf n g
+first-agree n f g same =
     let r : First n g (firstOf n g) = first-is n g in
     first-only
     (record {
       within = r .within;
-      below = λ j l. same j (omega (arith, r .within)) ∙ r .below j l;
-      holds = λ l. same (firstOf n g) l ∙ r .holds l;
+      below = λ j l. same j (omega (arith, r .within)) (omega arith) ∙ r .below j l;
+      holds = λ l. same (firstOf n g) l (omega arith) ∙ r .holds l;
     })
+
+-- and those that agree below n
+pub first-ext : (n : ℕ) (f g : ℕ → Bool) → ((i : ℕ) → i < n → f i ≡ g i) → firstOf n f ≡ firstOf n g
+first-ext n f g same = first-agree n f g (λ i l _. same i l)

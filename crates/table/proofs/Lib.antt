@@ -1,11 +1,12 @@
 -- What several proofs cite: places set to one value, how a definition's tests are decided, what sizes that pass them tell, the first index of which a test holds,
--- refusals one below the other, the steps of a lookup.
+-- refusals one below the other, the steps of a lookup, and what its answer tells.
 pub mod Fills
 pub mod Laws
 pub mod First
 pub mod Some
 pub mod Refusals
 pub mod Steps
+pub mod Tells
 -- The table of a list: lists by their function, the words before the cells, what each cell holds, the multipliers that are taken,
 -- the codes' own cells, and what is read from the words.
 pub mod Tabulate

@@ -33,16 +33,17 @@ pub refusals-pass : (tests : List Refusal) (values : List ℕ) → Passed tests 
 refusals-pass [] values all = refl
 refusals-pass (r ∷ rest) values all = rw (all .0) (refusals-pass rest values (all .1))
 
-pub refuse-passed :
-    (fails : Bool) (number value : ℕ) (rest : Answer) (values : List ℕ) → refuse fails number value rest ≡ given values
-    → (fails ≡ false) × (rest ≡ given values)
-refuse-passed true number value rest values e = never-both refl e
-refuse-passed false number value rest values e = (refl, e)
+-- an answer that is not the refusal comes after it
+pub refuse-not :
+    (fails : Bool) (number value : ℕ) (rest : Answer) {r : Answer} → (refused number value ≡ r → ⊥) → refuse fails number value rest ≡ r
+    → (fails ≡ false) × (rest ≡ r)
+refuse-not true number value rest other e = absurd (other e)
+refuse-not false number value rest other e = (refl, e)
 
 pub refusals-given : (tests : List Refusal) (values given-values : List ℕ) → refusals tests values ≡ given given-values → Passed tests
 refusals-given [] values vs e = tt
 refusals-given (r ∷ rest) values vs e =
-    let p = refuse-passed (r .fails) (r .number) (r .value) (refusals rest values) vs e in
+    let p = refuse-not (r .fails) (r .number) (r .value) (refusals rest values) (never-both refl) e in
     (p .0, refusals-given rest values vs (p .1))
 
 refuse-settled :

@@ -7,10 +7,10 @@ use native.Mathlib.Decide.{decLt}
 use native.Mathlib.Nat.{le-antisymm, add-zero, add-suc, add-sub-of-le}
 use native.Mathlib.Numerals.{add-one}
 use native.Mathlib.Omega.{arith}
-use borrow.Author.Tests.{lt-ltb, le-ltb}
+use borrow.Author.Tests.{lt-ltb, le-ltb, ltb-true}
 use lib.Dec.{ltb}
 use Rattle.table.specs.Answers.{firstOf, some}
-use Rattle.table.proofs.First.{Below, first-next, first-none, first-ext, none-refused}
+use Rattle.table.proofs.First.{Below, first-is, first-next, first-none, first-upto, first-ext, none-refused}
 use Rattle.hash.proofs.Indicators.{true-or-false}
 
 pub some-of-none : (test : ℕ → Bool) → some 0 test ≡ false
@@ -88,3 +88,10 @@ some-holds n test = none-refused n test .1
 -- where it holds of none
 pub none-below : (n : ℕ) (test : ℕ → Bool) → some n test ≡ false → Below test n
 none-below n test = none-refused n test .0
+
+-- where it holds of some number, and what a number of which it holds tells
+pub some-there : (n : ℕ) (test : ℕ → Bool) → some n test ≡ true → (x : ℕ) × (x < n) × (test x ≡ true)
+some-there n test e = let l = ltb-true (firstOf n test) n e in (firstOf n test, l, first-is n test .holds l)
+
+pub there-some : (n : ℕ) (test : ℕ → Bool) (x : ℕ) → x < n → test x ≡ true → some n test ≡ true
+there-some n test x l holds = lt-ltb (firstOf n test) n (omega (arith, first-upto n test x l holds))

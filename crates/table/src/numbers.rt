@@ -3,7 +3,8 @@ ghost use Prim.Native.Nat.{max, _<_, _≤_};
 ghost use mathlib.Core.Bool.{cond};
 ghost use mathlib.Core.Path.{_≡_};
 ghost use lib.Dec.{eqb};
-ghost use Rattle.table.specs.Answers.{outside};
+ghost use lib.ListN.{length, getD};
+ghost use Rattle.table.specs.Answers.{outside, some};
 ghost use Rattle.table.specs.code.Sized.{Within};
 
 // A word as an index or a part of a sum.
@@ -27,6 +28,19 @@ pub fn outside(low: u32, high: u32, x: u32) -> bool
     ensures { λ r. ⌜ r ≡ outside low high x ⌝ }
 {
     x < low || high < x
+}
+
+// Whether some number of a list is not from low to high: all are tested, branch-free.
+pub fn some_outside(low: u32, high: u32, list: &[u32]) -> bool
+    ensures { λ r. ⌜ r ≡ some (length (now (list .entry))) (λ i. outside low high (getD (now (list .entry)) i 0)) ⌝ }
+{
+    let mut bad = false;
+    let mut i = 0;
+    while i < list.len() {
+        bad = bad | outside(low, high, list[i]);
+        i += 1;
+    }
+    bad
 }
 
 // 1 for true, 0 for false: a test as a number, for branch-free sums.

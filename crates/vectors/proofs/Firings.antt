@@ -1,8 +1,11 @@
 -- P1 to P12. The checker computes each list's table and that none of 1 to 5 refuses it, once; what a build of it answers and leaves
 -- follows for any lent words. The other cases are computed as they stand.
 use Prim.Native.Nat.{ℕ, _≤_}
+use mathlib.Core.Bool.{false}
 use mathlib.Core.List.{List, [], _∷_, _++_}
 use mathlib.Core.Path.{_≡_, refl, sym, ap, _∙_}
+use native.Mathlib.Omega.{arith}
+use lib.Dec.{lit≤}
 use lib.ListN.{length, drop}
 use borrow.Author.Tests.{le-ltb}
 use Rattle.hash.specs.Hash.{hashOf, load, members, together, sum, cells, leastFrom, least}
@@ -12,11 +15,12 @@ use Rattle.table.specs.TwoLevel.{tabulate, blocksMultiplier, cellsMultiplier, s
 use Rattle.table.specs.Lookup.{badSizes, inCell, inBlock, lookupOf}
 use Rattle.table.specs.Pairs.{paired, valueWhere, among}
 use Rattle.table.proofs.Contents.{table-length}
-use Rattle.panel.specs.Panel.{walkOf, panelOf}
+use Rattle.panel.proofs.Past.{panel-past}
+use Rattle.panel.specs.Panel.{badHolds, largestOf, longest, leastLongest, deciding, walkOf, panelOf}
 use Rattle.lists.specs.List.{repeated, badCode, badSchedule, listOr}
 use Rattle.lists.proofs.Valid.{list-first}
 use Rattle.builder.specs.Build.{buildOf, builtWords}
-use Rattle.vectors.specs.Firings.{Gives, Refuses, Firings, codes3, schedules3, table3}
+use Rattle.vectors.specs.Firings.{Gives, Refuses, Firings, codes3, schedules3, table3, table5, tied5, holds12}
 
 -- ---- a build, from what 1 to 5 say of the list and from its table
 
@@ -66,10 +70,21 @@ module _
               ∙ ap (λ (t : List ℕ). t ++ drop (length t) words) tabled;
         }
 
+-- ---- a panel, by holds of which it was computed once that 74 does not refuse them
+
+fires :
+    (words holds : List ℕ) (a : ℕ) (codes : List ℕ) (r : Answer) → badHolds holds ≡ false → length (a ∷ codes) ≤ 64
+    → walkOf 65537 2048 words holds (a ∷ codes) ≡ r → panelOf 65537 2048 words holds (a ∷ codes) ≡ r
+fires words holds a codes r right few e = panel-past 65537 2048 words holds (a ∷ codes) (λ none. absurd (omega arith)) few right ∙ e
+
+right12 : badHolds holds12 ≡ false
+unfolding firstOf badHolds
+right12 = refl
+
 -- ---- the cases
 
 pub firings : Firings
-unfolding hashOf load members together sum cells leastFrom least firstOf blockOf cellIn ownCell tabulate blocksMultiplier cellsMultiplier startOf frontWith frontOf paired valueWhere heldAt tableWith cellsOf tableOf badSizes inCell inBlock lookupOf walkOf panelOf among badCode badSchedule repeated listOr
+unfolding hashOf load members together sum cells leastFrom least firstOf blockOf cellIn ownCell tabulate blocksMultiplier cellsMultiplier startOf frontWith frontOf paired valueWhere heldAt tableWith cellsOf tableOf badSizes inCell inBlock lookupOf badHolds largestOf longest leastLongest deciding walkOf panelOf among badCode badSchedule repeated listOr
 firings =
     let listed3 : listOr 65537 2048 codes3 schedules3 (given []) ≡ given [] = refl in
     let tabled3 : tableOf 65537 codes3 schedules3 ≡ table3 = refl in
@@ -98,12 +113,17 @@ firings =
       P9-end = refl;
       P10 = refuses _ _ 14 _ _ (into-room codes3 schedules3 table3 listed3 tabled3 14);
       P11 = λ lent. refuses _ _ lent _ _ (list-decides (5 ∷ 5 ∷ []) (1 ∷ 1 ∷ []) (refused 5 1) refl lent);
-      P12 = refl;
+      P12 = fires table5 holds12 7 (17 ∷ 4 ∷ []) _ right12 (lit≤ tt) refl;
       P12-cell = refl;
       P12-7 = refl;
       P12-17 = refl;
       P12-4 = refl;
+      P12-equal = refl;
       P12-tied = refl;
-      P12-first-7 = refl;
-      P12-first-17 = refl;
+      P12-first-7 = fires tied5 holds12 7 (17 ∷ []) _ right12 (lit≤ tt) refl;
+      P12-first-17 = fires tied5 holds12 17 (7 ∷ []) _ right12 (lit≤ tt) refl;
+      P12-not-in-use = fires table5 holds12 7 (8 ∷ 9 ∷ []) _ right12 (lit≤ tt) refl;
+      P12-unknown = fires table5 holds12 7 (9 ∷ 8 ∷ []) _ right12 (lit≤ tt) refl;
+      P12-998 = refl;
+      P12-10081 = refl;
     }

@@ -1,11 +1,12 @@
--- P1 to P12 of document 01, "Firings to compare by", a found code with its cell (document 02, Change 4): one table, a field or more for each case.
+-- P1 to P12 of document 01, "Firings to compare by", a found code with its cell and P12 with holds (document 02, Changes 4 and 5): one table, a field
+-- or more for each case.
 -- Statements only.
 use Prim.Native.Nat.{ℕ, _≤_}
 use mathlib.Core.List.{List, [], _∷_, _++_}
 use mathlib.Core.Path.{_≡_}
-use lib.ListN.{length, take, drop}
+use lib.ListN.{length, take, drop, replicate}
 use Rattle.hash.specs.Hash.{load, members}
-use Rattle.table.specs.Answers.{Answer, given, absent, refused}
+use Rattle.table.specs.Answers.{given, absent, unknown, refused}
 use Rattle.table.specs.Words.{blockStart, blockEnd, cellCode, blockOf, ownCell}
 use Rattle.table.specs.TwoLevel.{tableOf, tabulate}
 use Rattle.table.specs.Lookup.{lookupOf}
@@ -50,6 +51,10 @@ table5 =
 abbrev pub tied5 : List ℕ
 tied5 = take 20 table5 ++ (15 ∷ 0 ∷ 14 ∷ 0 ∷ 14 ∷ 13 ∷ 11 ∷ [])
 
+-- the holds of P12: 50, 60 and 45 minutes for 11, 12 and 14, and 0 for all others
+abbrev pub holds12 : List ℕ
+holds12 = replicate 10 0 ++ (50 ∷ 60 ∷ 0 ∷ 45 ∷ []) ++ replicate 985 0
+
 abbrev pub codes7 : List ℕ
 codes7 = 2 ∷ 4 ∷ 5 ∷ 15 ∷ 18 ∷ 30 ∷ []
 
@@ -83,14 +88,23 @@ pub record Firings : Type 0 where
   pub P10 : Refuses codes3 schedules3 14 6 15
   -- whatever the number of lent words
   pub P11 : (lent : ℕ) → Refuses (5 ∷ 5 ∷ []) (1 ∷ 1 ∷ []) lent 5 1
-  -- the cell is that of 17, which decides
-  pub P12 : panelOf 65537 2048 table5 (7 ∷ 17 ∷ 4 ∷ []) ≡ given (14 ∷ 2 ∷ [])
-  pub P12-cell : cellCode table5 2 ≡ 17
+  -- 12 has the longest hold; the cell is that of 7, which decides
+  pub P12 : panelOf 65537 2048 table5 holds12 (7 ∷ 17 ∷ 4 ∷ []) ≡ given (12 ∷ 4 ∷ [])
+  pub P12-cell : cellCode table5 4 ≡ 7
   -- each of its codes alone
   pub P12-7 : lookupOf 65537 2048 table5 7 ≡ given (12 ∷ 4 ∷ [])
   pub P12-17 : lookupOf 65537 2048 table5 17 ≡ given (14 ∷ 2 ∷ [])
   pub P12-4 : lookupOf 65537 2048 table5 4 ≡ given (11 ∷ 6 ∷ [])
-  -- of two codes with the largest schedule the first decides: 7 with 14 too
+  -- of equal holds the least number decides, wherever its code stands: 14 with 60 minutes too
+  pub P12-equal :
+      panelOf 65537 2048 table5 (replicate 10 0 ++ (50 ∷ 60 ∷ 0 ∷ 60 ∷ []) ++ replicate 985 0) (17 ∷ 7 ∷ 4 ∷ []) ≡ given (12 ∷ 4 ∷ [])
+  -- of two codes with the schedule that decides the first: 7 with 14 too
   pub P12-tied : tableOf 65537 codes5 (11 ∷ 14 ∷ 13 ∷ 14 ∷ 15 ∷ []) ≡ tied5
-  pub P12-first-7 : panelOf 65537 2048 tied5 (4 ∷ 7 ∷ 17 ∷ []) ≡ given (14 ∷ 4 ∷ [])
-  pub P12-first-17 : panelOf 65537 2048 tied5 (17 ∷ 4 ∷ 7 ∷ []) ≡ given (14 ∷ 2 ∷ [])
+  pub P12-first-7 : panelOf 65537 2048 tied5 holds12 (7 ∷ 17 ∷ []) ≡ given (14 ∷ 4 ∷ [])
+  pub P12-first-17 : panelOf 65537 2048 tied5 holds12 (17 ∷ 7 ∷ []) ≡ given (14 ∷ 2 ∷ [])
+  -- 8 has 13, which is not in use; 9 is absent; the first of the two ends it
+  pub P12-not-in-use : panelOf 65537 2048 table5 holds12 (7 ∷ 8 ∷ 9 ∷ []) ≡ refused 75 1
+  pub P12-unknown : panelOf 65537 2048 table5 holds12 (7 ∷ 9 ∷ 8 ∷ []) ≡ unknown 1
+  -- one hold too few, and one of 10,081 minutes, also where the first code is absent
+  pub P12-998 : panelOf 65537 2048 table5 (take 998 holds12) (9 ∷ []) ≡ refused 74 0
+  pub P12-10081 : panelOf 65537 2048 table5 (take 998 holds12 ++ (10081 ∷ [])) (9 ∷ []) ≡ refused 74 0

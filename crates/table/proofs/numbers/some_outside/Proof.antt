@@ -1,20 +1,20 @@
--- `lists::range::some_outside` meets its contract. Invariant: whether the test holds below j. The measure is what is left of the list.
+-- `table::numbers::some_outside` meets its contract. Invariant: whether the test holds below i. The measure is what is left of the list.
 use Prim.Native.Nat.{ℕ, _≤_, _-_}
 use mathlib.Core.Bool.{_||_}
 use mathlib.Core.Path.{_≡_, sym, ap₂, _∙_}
 use native.Mathlib.Omega.{arith}
 use borrow.Author.Needs.{needs}
 use lib.ListN.{length, getD}
 use Rattle.table.specs.Answers.{outside, some}
 use Rattle.table.proofs.Some.{some-of-none, some-next, some-end}
-use Rattle.lists.proofs.range.some_outside.Statement.{statement}
-use Rattle.lists.proofs.range.some_outside.Tie as tie
+use Rattle.table.proofs.numbers.some_outside.Statement.{statement}
+use Rattle.table.proofs.numbers.some_outside.Tie as tie
 
 abbrev Inv-loop : tie.InvT-loop
-Inv-loop high list bad₀ j₀ bad j = (j ≤ length list) × (bad ≡ some j (λ (i : ℕ). outside 1 high (getD list i 0)))
+Inv-loop low high list bad₀ i₀ bad i = (i ≤ length list) × (bad ≡ some i (λ (x : ℕ). outside low high (getD list x 0)))
 
 abbrev μ-loop : tie.MeasureT-loop
-μ-loop high list bad₀ j₀ bad j = length list - j
+μ-loop low high list bad₀ i₀ bad i = length list - i
 
 loop-holds : tie.Need-loop-holds Inv-loop μ-loop
 loop-holds c = (omega arith, sym (some-of-none _))

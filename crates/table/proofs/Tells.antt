@@ -99,5 +99,7 @@ module _ (p limit : ℕ) (words : List ℕ) (a s i : ℕ) (e : lookupOf p limit 
   pub stands-there : (i < cellCount words) × (cellCode words i ≡ a) × (cellSchedule words i ≡ s)
   stands-there = let stands = lookup-stands p words a limit e in rw own-cell (stands .below, stands .code, schedule-is)
 
-  pub positive : 0 < s
-  positive = omega (arith, schedule-is, lookup-stands p words a limit e .from-one)
+  pub schedule-range : (1 ≤ s) × (s ≤ 999)
+  schedule-range =
+      let stands = lookup-stands p words a limit e in
+      (omega (arith, schedule-is, stands .from-one), omega (arith, schedule-is, stands .to-999))
