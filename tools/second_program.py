@@ -1,7 +1,7 @@
 #!/usr/bin/env python3
 """A second implementation of the build, the check, the lookup, the panel and the listing of document 01, of lists as text
-and of test loads (document 02, Changes 1 and 2), and of the cells that are found (Change 4), to compare the proved ones
-with.
+and of test loads (document 02, Changes 1 and 2), of the cells that are found (Change 4) and of the holds that decide a
+panel (Change 5), to compare the proved ones with.
 
 Written from the papers alone, with the standard library alone.
 
@@ -17,8 +17,8 @@ Written from the papers alone, with the standard library alone.
       makes COUNT lengths of loads and lent places from SEED, runs PROGRAM (`compare_loads`) on them and compares what it
       prints
   tools/second_program.py fresh-lookups SEED COUNT PROGRAM
-      makes COUNT tables, whole and damaged, with codes to look up and a panel from SEED, runs PROGRAM (`compare_lookups`) on
-      them and compares what it prints
+      makes COUNT tables, whole and damaged, with holds, codes to look up and a panel from SEED, runs PROGRAM
+      (`compare_lookups`) on them and compares what it prints
   tools/second_program.py fresh-tables SEED COUNT PROGRAM
       makes COUNT texts from SEED, runs PROGRAM (`make_table`) on each and compares what it prints
   tools/second_program.py fresh-files SEED COUNT PROGRAM
@@ -47,8 +47,9 @@ Output:
   `generated NUMBER VALUE DIGEST DIGEST`, the digests of all lent codes and of all lent schedules after the call; unless it
   is refused, `built n c k total digest` of the load's table, and where it is listed, the listing of document 01
 
-Input of `compare_lookups`, for each table, whole or damaged: its words, the codes that are looked up and the codes of the
-panel; before each of the three, how many they are.
+Input of `compare_lookups`, for each table, whole or damaged: its words, the runs of the holds, the codes that are looked up
+and the codes of the panel; before each of the four, how many numbers it has. A run is two numbers: how many schedules, one
+after the other, and the hold of each of them.
 Output:
   `found CODE NUMBER VALUE CELL` for each code that is looked up
   `fired NUMBER VALUE CELL`, what the panel answers
@@ -70,6 +71,8 @@ MOST_PAIRS = 2048
 MOST_NUMBER = 4294967295
 MOST_FILE = 65536
 MOST_PANEL = 64
+SCHEDULES = 999
+MOST_HOLD = 10080
 
 SHORT = 32
 SHORT_TEXT = 256
@@ -80,6 +83,7 @@ OLD_BYTES = 251
 MOST_PLACES = 4096
 MOST_TEXT = 65536
 MOST_WORDS = 16384
+MOST_HOLDS = 1024
 
 CRATES = pathlib.Path(__file__).resolve().parent.parent / "crates"
 
@@ -226,22 +230,37 @@ def lookup(words, code):
     return (0, schedule, cell) if 1 <= schedule <= 999 else (34, 0, 0)
 
 
-def panel(words, codes):
-    """The number, the value and the cell of a panel in any words."""
+def bad_holds(holds):
+    """Whether the holds aren't those of all schedules, or one is too long."""
+    return len(holds) != SCHEDULES or any(hold > MOST_HOLD for hold in holds)
+
+
+def ending(answer, holds):
+    """The number by which a lookup's answer ends a panel, 0 where the panel goes on."""
+    number, schedule, _ = answer
+    if number:
+        return number
+    return 75 if holds[schedule - 1] == 0 else 0
+
+
+def panel(words, holds, codes):
+    """The number, the value and the cell of a panel in any words, by any holds."""
     if not codes:
         return 35, 0, 0
     if len(codes) > MOST_PANEL:
         return 36, 0, 0
-    # no schedule is below 1, so the first code replaces this
-    largest, where = 0, 0
-    for i, code in enumerate(codes):
-        number, schedule, cell = lookup(words, code)
+    if bad_holds(holds):
+        return 74, 0, 0
+    answers = [lookup(words, code) for code in codes]
+    for i, answer in enumerate(answers):
+        number = ending(answer, holds)
         if number:
             return number, i, 0
-        # of several with the largest schedule the first decides
-        if schedule > largest:
-            largest, where = schedule, cell
-    return 0, largest, where
+    schedules = [schedule for _, schedule, _ in answers]
+    longest = max(holds[s - 1] for s in schedules)
+    least = min(s for s in schedules if holds[s - 1] == longest)
+    _, _, cell = answers[schedules.index(least)]
+    return 0, least, cell
 
 
 def listing(words, pairs):
@@ -463,24 +482,33 @@ class Generated(typing.NamedTuple):
         return line + line_of(["built"] + summary(words)) + (listing(words, pairs) if self.listed else b"")
 
 
+def runs(holds):
+    """The holds as `compare_lookups` reads them."""
+    return [number for minutes, run in itertools.groupby(holds) for number in (len(list(run)), minutes)]
+
+
 class LookedUp(typing.NamedTuple):
-    """Words in which `compare_lookups` looks codes up, and a panel."""
+    """Words in which `compare_lookups` looks codes up, and a panel with its holds."""
 
     words: list
+    holds: list
     codes: list
     panel: list
 
     def encoded(self):
-        assert len(self.words) <= MOST_WORDS and max(len(self.codes), len(self.panel)) <= MOST_PLACES
-        return b"".join(packed([len(numbers)] + numbers) for numbers in self)
+        assert len(self.words) <= MOST_WORDS and len(self.holds) <= MOST_HOLDS
+        assert max(len(self.codes), len(self.panel)) <= MOST_PLACES
+        return b"".join(packed([len(numbers)] + numbers) for numbers in self._replace(holds=runs(self.holds)))
+
+    def fired(self):
+        return panel(self.words, self.holds, self.panel)
 
     def answered(self):
-        found = [("found", lookup(self.words, code)[0]) for code in self.codes]
-        return found + [("fired", panel(self.words, self.panel)[0])]
+        return [("found", lookup(self.words, code)[0]) for code in self.codes] + [("fired", self.fired()[0])]
 
     def expected(self):
         found = [line_of(["found", code, *lookup(self.words, code)]) for code in self.codes]
-        return b"".join(found) + line_of(["fired", *panel(self.words, self.panel)])
+        return b"".join(found) + line_of(["fired", *self.fired()])
 
 
 def encoded(cases):
@@ -938,37 +966,91 @@ def known_codes(words):
     return [a for a in arrays(words)[2] if a] if len(words) > 1 else []
 
 
+def known_schedules(words):
+    """The schedules in the cells of a table; of other words, what stands where these would be and could be one."""
+    return [s for s in arrays(words)[3] if 1 <= s <= SCHEDULES] if len(words) > 1 else []
+
+
+def holds_of(minutes, others):
+    """The holds of some schedules, by their numbers, and of all others."""
+    return [minutes.get(s, others) for s in range(1, SCHEDULES + 1)]
+
+
+def rising(schedules):
+    """Holds that rise with the number, at each of these schedules."""
+    return [1 + sum(t <= s for t in set(schedules)) for s in range(1, SCHEDULES + 1)]
+
+
 def paper_lookups():
-    """In the tables of P1 to P5, some with words after them, their codes, those of P8 and P9 and the ends, and a panel; then P12."""
+    """In the tables of P1 to P5, some with words after them, their codes, those of P8 and P9 and the ends, and a panel; then P12, also by rising holds."""
     tables = [build(pairs) + rest for pairs in paper_lists() for rest in ([], [1], [MOST_NUMBER] * 9)]
-    cases = [LookedUp(words, known_codes(words) + [3, 10] + ENDS, known_codes(words)) for words in tables]
-    return cases + [LookedUp(build(P5), [], [7, 17, 4])]
+    cases = [LookedUp(w, rising(known_schedules(w)), known_codes(w) + [3, 10] + ENDS, known_codes(w)) for w in tables]
+    words = build(P5)
+    return cases + [LookedUp(words, holds, [], [7, 17, 4]) for holds in (holds_of({12: 60, 14: 45, 11: 50}, 0), rising(known_schedules(words)))]
 
 
 def tied_panels():
-    """Panels of all one, two and three codes of five, the same one more than once too; three of the five have the largest schedule."""
-    pairs = [(4, 12), (7, 15), (8, 15), (17, 14), (20, 15)]
+    """Panels of all one, two and three codes of five, the same one more than once too; all holds are equal, and three of the five have the least schedule."""
+    pairs = [(1, 14), (2, 12), (3, 12), (4, 13), (5, 12)]
     panels = [list(codes) for m in (1, 2, 3) for codes in itertools.product([a for a, _ in pairs], repeat=m)]
-    return [LookedUp(build(pairs), [], codes) for codes in panels]
+    return [LookedUp(build(pairs), holds_of({}, 60), [], codes) for codes in panels]
+
+
+def ordered_panels():
+    """Panels of four codes in all orders, by holds of their three schedules in all orders, equal ones too; all other holds are longer."""
+    pairs = [(1, 12), (2, 13), (3, 13), (4, 14)]
+    ranked = sorted({tuple(sorted(set(t)).index(x) for x in t) for t in itertools.product(range(3), repeat=3)})
+    holds = [holds_of({12 + i: 1 + rank for i, rank in enumerate(ranks)}, MOST_HOLD) for ranks in ranked]
+    return [LookedUp(build(pairs), h, [], list(codes)) for h in holds for codes in itertools.permutations(a for a, _ in pairs)]
+
+
+def end_schedules():
+    """Panels with the first schedule and the last, which have the first hold and the last: not in use, as long as another or longer."""
+    pairs = [(1, 1), (2, SCHEDULES), (3, 500)]
+    holds = [holds_of({1: first, 500: 60, SCHEDULES: last}, 0) for first, last in itertools.product((0, 60, MOST_HOLD), repeat=2)]
+    return [LookedUp(build(pairs), h, [], list(codes)) for h in holds for codes in itertools.permutations(a for a, _ in pairs)]
 
 
 def ended_panels():
-    """Panels of P5 that one code or the first of two ends: absent from an empty block or a cell, out of range, in a damaged block."""
+    """Panels of P5 that one code or the first of two ends: absent from an empty block or a cell, out of range, in a damaged block, not in use."""
     words, codes = build(P5), [7, 17, 4]
     # the q of the block of 20
     words[8] = 0
-    ending = [[a] for a in (6, 9, 0, P, 20)]
-    ending += [first + second for first, second in itertools.permutations(ending, 2)]
-    return [LookedUp(words, [], codes[:i] + ends + codes[i:]) for i in (0, 1, 3) for ends in ending]
+    ending_codes = [[a] for a in (6, 9, 0, P, 20, 8)]
+    ending_codes += [first + second for first, second in itertools.permutations(ending_codes, 2)]
+    # the schedule of 8 is not in use
+    holds = holds_of({13: 0}, 60)
+    return [LookedUp(words, holds, [], codes[:i] + ends + codes[i:]) for i in (0, 1, 3) for ends in ending_codes]
 
 
 def panel_lengths():
     """Panels of 0 to 200 codes, in a table, an empty one, one that is cut and no words; about 64 also with another code last or first."""
     words = build(P5)
+    holds = rising(known_schedules(words))
     lent = [words, build([]), words[:-1], []]
-    cases = [LookedUp(w, [], ([7, 17, 4] * 67)[:m]) for w in lent for m in (0, 1, 63, 64, 65, 200)]
-    cases += [LookedUp(words, [], [4] * (m - 1) + [last]) for m in (64, 65) for last in (20, 5, 0, P)]
-    return cases + [LookedUp(words, [], [first] + [4] * 64) for first in (5, 0, P)]
+    cases = [LookedUp(w, holds, [], ([7, 17, 4] * 67)[:m]) for w in lent for m in (0, 1, 63, 64, 65, 200)]
+    cases += [LookedUp(words, holds, [], [4] * (m - 1) + [last]) for m in (64, 65) for last in (20, 5, 0, P)]
+    return cases + [LookedUp(words, holds, [], [first] + [4] * 64) for first in (5, 0, P)]
+
+
+def held_panels():
+    """Too few holds and too many, the longest and longer ones in the first, a middle and the last place, all of the longest, none in use. The panels are
+    found, empty, too long, begin with a code that is absent or out of range, or stand in no blocks, in cut words or in none."""
+    words, codes = build(P5), [7, 17, 4]
+    equal = holds_of({}, 60)
+    holds = [equal[:m] for m in (0, 1, 998)] + [equal + [60], equal + [60] * 25, holds_of({}, MOST_HOLD), holds_of({}, 0)]
+    holds += [holds_of({s: minutes}, 60) for s in (1, 500, SCHEDULES) for minutes in (MOST_HOLD, MOST_HOLD + 1, MOST_NUMBER)]
+    panels = [(words, m) for m in (codes, [], codes * 22, [5] + codes, [0] + codes)]
+    panels += [(w, codes) for w in (build([]), words[:-1], words[:2], [])]
+    return [LookedUp(w, h, [], m) for h in holds for w, m in panels]
+
+
+def mixed_holds():
+    """Panels of 64 codes by holds in any order: all different, and of a few lengths."""
+    r = random.Random(75)
+    pairs = with_schedules(r, r.sample(range(1, P), MOST_PANEL))
+    holds = [r.sample(range(1, MOST_HOLD + 1), SCHEDULES), r.choices([1, 45, 60], k=SCHEDULES)]
+    return [LookedUp(build(pairs), h, [], [a for a, _ in pairs]) for h in holds]
 
 
 def blank_table(n, c):
@@ -986,7 +1068,7 @@ def sized_lookups():
     # in 32 bits their totals would be at most that of the words
     sizes = [(2**31, 4), (2, 2**31), (2**31 + 2, 4), (2, 2**31 + 4), (2**31, 2**31)]
     tables += [[n, c] + words[2:] for n, c in sizes]
-    return [LookedUp(w, [2, 6, 3, 0, P], [6, 2]) for w in tables]
+    return [LookedUp(w, holds_of({}, 60), [2, 6, 3, 0, P], [6, 2]) for w in tables]
 
 
 def last_multiplier_lookups():
@@ -996,10 +1078,10 @@ def last_multiplier_lookups():
         laid_out(last, [[1], [last]], [1, 1], [last, last], {1: 6, last: 5}),
         laid_out(1, [[2, last], []], [4, 0], [last, last], {2: 6, last: 5}),
     ]
-    return [LookedUp(words, [1, 2, last], known_codes(words)) for words in tables]
+    return [LookedUp(words, rising([5, 6]), [1, 2, last], known_codes(words)) for words in tables]
 
 
-def changed_lookups(pairs):
+def changed_lookups(pairs, holds):
     """The table of a list with each word in turn at the ends of the ranges, one beyond them, one less and one more."""
     words = build(pairs)
     c = words[1]
@@ -1007,24 +1089,23 @@ def changed_lookups(pairs):
     cases = []
     for i, word in enumerate(words):
         others = {0, 1, (word - 1) % (MOST_NUMBER + 1), word + 1, c, c + 1, 999, 1000, P - 1, P, MOST_NUMBER} - {word}
-        cases += [LookedUp(words[:i] + [other] + words[i + 1 :], codes, codes) for other in sorted(others)]
+        cases += [LookedUp(words[:i] + [other] + words[i + 1 :], holds, codes, codes) for other in sorted(others)]
     return cases
 
 
 def largest_lookups():
-    """The largest test load: codes with index 1,997 and 998 have schedule 999, the earlier one of the panel decides."""
+    """The largest test load: codes with index 1,997 and 998 have schedule 999 and the longest hold, the earlier one of the panel decides."""
     pairs = test_load(MOST_PAIRS)
     codes = [a for a, _ in pairs]
     absent = sorted(set(range(1, P)) - set(codes))
     panel_codes = codes[1990:2000] + codes[990:1000] + codes[:44]
-    return [LookedUp(build(pairs), codes[::32] + codes[-1:] + absent[::1000] + ENDS, panel_codes)]
+    return [LookedUp(build(pairs), rising([998, 999]), codes[::32] + codes[-1:] + absent[::1000] + ENDS, panel_codes)]
 
 
 def tied_table(r):
-    """A well-formed table of two schedules, so that several codes of a panel have the largest."""
-    words = good_table(r)
-    at = bounds(*words[:2])[3]
-    return words[:at] + [s and r.choice([998, 999]) for s in words[at:]]
+    """A well-formed table of three schedules, mostly of a few codes, so that several codes of a panel have the schedule that decides."""
+    pairs = [(a, r.choice([1, 998, 999])) for a in random_codes(r, r.choice([r.randint(3, 12), r.randint(3, 12), size(r)]))]
+    return r.choice([build(pairs), loose_table(r, pairs, len(pairs), 0)])
 
 
 def any_words(r):
@@ -1048,23 +1129,45 @@ def any_panel(r, known, words):
     return codes
 
 
-def random_lookups(seed, count, most_words):
-    """Tables of all kinds with at most so many words; codes that are mostly theirs."""
+def any_holds(r, schedules, most_runs):
+    """Holds in at most so many runs, which mostly begin at one of these schedules or after it; often some are equal or not in use, or they rise or fall."""
+    near = [s - r.randint(0, 1) for s in schedules] + [r.randrange(SCHEDULES)]
+    firsts = sorted({0, *r.choices(near, k=r.randrange(most_runs))} - {SCHEDULES})
+    several = r.choice([[45, 60], [1, 60, MOST_HOLD], [0, 45, 60], [0, 60, 60, 60], range(1, MOST_HOLD + 1), range(MOST_HOLD + 1)])
+    minutes = [r.choice(several) for _ in firsts]
+    minutes = r.choice([minutes, minutes, minutes, sorted(minutes), sorted(minutes, reverse=True)])
+    return [m for first, end, m in zip(firsts, firsts[1:] + [SCHEDULES], minutes) for _ in range(first, end)]
+
+
+def damaged_holds(r, holds):
+    """Holds of which one is any number, mostly too long, or which are too few or too many."""
+    i = r.choice([0, SCHEDULES - 1, r.randrange(SCHEDULES)])
+    other = r.choice([MOST_HOLD + 1, MOST_NUMBER, any_number(r)])
+    return r.choice([holds[:i] + [other] + holds[i + 1 :], holds[:i], holds + holds[: r.randint(1, MOST_HOLDS - SCHEDULES)]])
+
+
+def random_lookups(seed, count, most_words, most_runs):
+    """Tables of all kinds with at most so many words, holds of at most so many runs, of which some are then damaged; codes that are mostly the table's."""
     r = random.Random(seed)
-    makers = TABLES + [tied_table, tied_table, lambda r: changed(r, tied_table(r)), any_words]
+    makers = TABLES + [tied_table] * 8 + [lambda r: changed(r, tied_table(r)), any_words]
     tables = (words for _ in itertools.count() for words in [r.choice(makers)(r)] if len(words) <= most_words)
     cases = []
     for words in itertools.islice(tables, count):
+        holds = any_holds(r, known_schedules(words), most_runs)
+        if r.random() < 0.1:
+            holds = damaged_holds(r, holds)
         known = known_codes(words) or ENDS
         codes = r.sample(known, min(len(known), 12)) + [any_code(r, known, words) for _ in range(r.randint(0, 8))]
-        cases.append(LookedUp(words, codes, any_panel(r, known, words)))
+        cases.append(LookedUp(words, holds, codes, any_panel(r, known, words)))
     return cases
 
 
 def stored_lookups():
-    cases = paper_lookups() + tied_panels() + ended_panels() + panel_lengths()
-    cases += sized_lookups() + last_multiplier_lookups() + changed_lookups([(2, 1), (6, 2)]) + changed_lookups(P5)
-    return cases + largest_lookups() + random_lookups(34, 200, 100)
+    cases = paper_lookups() + tied_panels() + ordered_panels() + end_schedules()
+    cases += ended_panels() + panel_lengths() + held_panels() + mixed_holds() + sized_lookups() + last_multiplier_lookups()
+    cases += changed_lookups([(2, 1), (6, 2)], holds_of({1: 60, 2: 60, 999: 60}, 0))
+    cases += changed_lookups(P5, holds_of({11: 50, 12: 60, 13: 60, 14: 45, 15: 45}, 0))
+    return cases + largest_lookups() + random_lookups(34, 175, 100, 8)
 
 
 # ---- the stored files, and fresh cases
@@ -1159,7 +1262,7 @@ FRESH = {
     "fresh": lambda seed, count, program: fresh([Built(pairs) for pairs in random_lists(seed, count)], program),
     "fresh-texts": lambda seed, count, program: fresh(random_texts(seed, count), program),
     "fresh-loads": lambda seed, count, program: fresh(random_loads(seed, count), program),
-    "fresh-lookups": lambda seed, count, program: fresh(random_lookups(seed, count, MOST_WORDS), program),
+    "fresh-lookups": lambda seed, count, program: fresh(random_lookups(seed, count, MOST_WORDS, MOST_HOLDS), program),
     "fresh-tables": lambda seed, count, program: fresh_tables(random_studio_texts(seed, count), program),
     "fresh-files": fresh_files,
 }
