@@ -94,17 +94,48 @@ void lookups(const Words &table, const Words &codes) {
     }
 }
 
-// The answer to a panel by our lookups of its codes: the first of the largest schedule decides.
-glass_found by_lookups(const Words &table, const Words &panel) {
+// The answer to a panel from our lookups of all its codes, as document 02 words it: the longest hold, of the schedules with it the least number, of the
+// codes with that schedule the first.
+glass_found by_lookups(const Words &table, const Words &holds, const Words &panel) {
     if (panel.empty()) return {35, 0, 0};
     if (panel.size() > 64) return {36, 0, 0};
-    glass_found decided = {0, 0, 0};
-    for (uint32_t i = 0; i < panel.size(); i++) {
-        glass_found a = functions[0].lookup(table.data(), table.size(), panel[i]);
-        if (a.number) return {a.number, i, 0};
-        if (a.value > decided.value) decided = a;
-    }
-    return decided;
+    if (holds.size() != 999 || *std::max_element(holds.begin(), holds.end()) > 10080) return {74, 0, 0};
+    std::vector<glass_found> answers;
+    for (uint32_t code : panel) answers.push_back(functions[0].lookup(table.data(), table.size(), code));
+    auto hold = [&](const glass_found &a) { return holds[a.value - 1]; };
+    auto ends = std::find_if(answers.begin(), answers.end(), [&](const glass_found &a) { return a.number || hold(a) == 0; });
+    if (ends != answers.end()) return {ends->number ? ends->number : 75, (uint32_t)(ends - answers.begin()), 0};
+    uint32_t longest = 0, least = 1000;
+    for (const glass_found &a : answers) longest = std::max(longest, hold(a));
+    for (const glass_found &a : answers)
+        if (hold(a) == longest) least = std::min(least, a.value);
+    return *std::find_if(answers.begin(), answers.end(), [&](const glass_found &a) { return a.value == least; });
+}
+
+void fired(const Words &table, const Words &holds, const Words &panel) {
+    const Words before = holds;
+    auto fire = [&](const Functions &f) { return f.panel(table.data(), table.size(), holds.data(), holds.size(), panel.data(), panel.size()); };
+    const glass_found a = fire(functions[0]);
+    for (const Functions &f : functions) same("panel", f.name, a, fire(f));
+    same("panel", "its lookups", a, by_lookups(table, holds, panel));
+    if (holds != before) differ("panel", "one of them", "the holds");
+    seen["panel"][a.number]++;
+}
+
+// those that some lists have and no others, the ends among them
+const uint32_t few_schedules[] = {1, 2, 500, 998, 999};
+
+// Holds of few values or of many, of all schedules or not. Sometimes one is at an end of the range or beyond, or their number is wrong.
+Words any_holds(Random &r) {
+    const uint32_t most[] = {1, 3, 168, 10080}, ends[] = {0, 1, 10079, 10080, 10081, 65536, 1u << 31, ~(uint32_t)0};
+    const size_t lengths[] = {0, 1, 998, 1000};
+    const uint32_t longest = most[r.below(4)];
+    const bool all_in_use = r.below(4);
+    Words holds(999);
+    for (uint32_t &hold : holds) hold = all_in_use || r.below(8) ? 1 + r.below(longest) : 0;
+    if (r.below(4) == 0) holds[r.below(2) ? few_schedules[r.below(5)] - 1 : r.below(999)] = ends[r.below(8)];
+    if (r.below(16) == 0) holds.resize(lengths[r.below(4)], 1);
+    return holds;
 }
 
 // All that is asked of a table from anywhere.
@@ -142,10 +173,7 @@ void asked(const Words &table, const Words &codes, Random &r) {
             else x = r.below(4) ? r.below(65538) : 65537 * r.below(2);
         }
         panel.reserve(1); // a pointer that is not null
-        glass_found p = functions[0].panel(table.data(), table.size(), panel.data(), panel.size());
-        for (const Functions &f : functions) same("panel", f.name, p, f.panel(table.data(), table.size(), panel.data(), panel.size()));
-        same("panel", "its lookups", p, by_lookups(table, panel));
-        seen["panel"][p.number]++;
+        fired(table, any_holds(r), panel);
     }
     if (table != before) differ("check, read back, look up, panel", "one of them", "the table");
 }
@@ -166,15 +194,42 @@ List any_list(uint32_t turn, Random &r) {
     } else {
         l = random_list(n, r);
     }
-    // of few schedules a panel has the largest several times
+    // of few schedules a panel has one several times
     if (r.below(4) == 0)
-        for (uint32_t &x : l.schedules) x = 997 + r.below(3);
+        for (uint32_t &x : l.schedules) x = few_schedules[r.below(5)];
     uint32_t fault = r.below(12);
     if (n && fault == 0) l.codes[r.below(n)] = r.below(2) ? 0 : 65537 + r.below(3);
     if (n && fault <= 1) l.codes[r.below(n)] = l.codes[r.below(n)];
     if (n && (fault == 0 || fault == 2)) l.schedules[r.below(n)] = r.below(2) ? 0 : 1000;
     if (fault == 3) l.schedules.push_back(1);
     return l;
+}
+
+// ---- holds
+
+// In a table of all schedules each hold in turn is at an end of the range, beyond it, or about as long as all others, and its code is one of a panel's;
+// then there are too few or too many holds. Gives the number of panels.
+uint64_t compare_holds() {
+    Random r(89);
+    List l = random_list(999, r);
+    for (uint32_t i = 0; i < 999; i++) l.schedules[i] = i + 1;
+    const Words table = table_of(l);
+    uint64_t panels = 0;
+    for (uint32_t i = 0; i < 999; i++)
+        for (uint32_t hold : {0u, 1u, 59u, 60u, 61u, 10079u, 10080u, 10081u, 65536u, 1u << 31, ~0u})
+            for (uint32_t at = 0; at < 3; at++, panels++) {
+                Words holds(999, 60), panel(3);
+                holds[i] = hold;
+                for (uint32_t &code : panel) code = l.codes[r.below(999)];
+                panel[at] = l.codes[i];
+                fired(table, holds, panel);
+            }
+    for (size_t len = 0; len <= 2000; len++, panels++) {
+        Words holds(2000, 60);
+        holds.resize(len); // its pointer stays
+        fired(table, holds, {l.codes[0]});
+    }
+    return panels;
 }
 
 // ---- put in, take out
@@ -448,16 +503,18 @@ std::string compare_all() {
         asked(t, {1, 2, 3}, r);
     }
     const uint32_t written = 40000;
-    const uint64_t edits = compare_edits(8000), texts = compare_texts(written), loads = compare_loads(), words = compare_words(), files = compare_listings(4000);
+    const uint64_t holds = compare_holds(), edits = compare_edits(8000), texts = compare_texts(written), loads = compare_loads(), words = compare_words(),
+                   files = compare_listings(4000);
 
     for (const auto &a : seen["build"]) lists += a.second;
     std::string s = grouped(lists) + " lists, " + grouped(damaged) + " damaged tables, " + grouped(other) +
                     " well-formed tables whose multipliers are not least, " + grouped(senseless) + " runs of words that are no table; of " +
-                    grouped(exhaustive) + " tables every code from 0 to 65,538; " + grouped(edits) +
+                    grouped(exhaustive) + " tables every code from 0 to 65,538; " + grouped(holds) +
+                    " panels with each hold in turn at the ends of the range and beyond, or with too few or too many holds; " + grouped(edits) +
                     " tables with a code put in and taken out, half of them damaged; " + grouped(written) + " lists written as text, " + grouped(texts) +
                     " texts read, most of them damaged; " + grouped(loads) + " test loads; " + grouped(words) + " runs of bytes made words; " + grouped(files) +
                     " files listed, most of them damaged. All answers, cells included, and all lent memory were equal; each found code was in its cell, and "
-                    "each panel was what our lookups make it. ";
+                    "each panel was what our lookups and its holds make it. ";
     s += "How often each number was answered, or listed as refused (0: a result, 1000: absent or unknown):\n\n";
     for (const auto &o : seen) {
         s += "- " + o.first + ":";

@@ -37,20 +37,21 @@ static uint32_t chain(const void *map, const uint32_t *codes, size_t count, uint
     return last;
 }
 
-static uint64_t panels(const void *map, const uint32_t *codes, size_t count) {
+static uint64_t panels(const void *map, const uint32_t *holds, const uint32_t *codes, size_t each, size_t count) {
     (void)map;
     uint64_t s = 0;
     for (size_t i = 0; i < count; i++) {
-        uint32_t largest = 0;
-        for (size_t t = 0; t < 64; t++) {
-            uint32_t schedule = get(codes[64 * i + t]);
-            if (schedule == 0) {
-                largest = 0;
+        if (holds_refused(holds)) continue;
+        uint32_t highest = 0;
+        for (size_t t = 0; t < each; t++) {
+            uint32_t rank = rank_of(holds, get(codes[each * i + t]));
+            if (rank == 0) {
+                highest = 0;
                 break;
             }
-            largest = schedule > largest ? schedule : largest;
+            highest = rank > highest ? rank : highest;
         }
-        s += largest;
+        s += ranked(highest);
     }
     return s;
 }

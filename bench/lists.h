@@ -62,6 +62,14 @@ inline List fixed_list(size_t n) {
     return random_list(n, r);
 }
 
+// The holds that panels are timed with: all schedules are in use, whole hours in no order, so that many are equal.
+inline std::vector<uint32_t> fixed_holds() {
+    Random r(999);
+    std::vector<uint32_t> holds(999);
+    for (uint32_t &hold : holds) hold = 60 * (1 + r.below(168));
+    return holds;
+}
+
 enum Kind { RANDOM, PROGRESSION, MULTIPLES, RESIDUES, KINDS };
 
 // an arithmetic progression, the multiples of a number, or codes r + 4,096 t

@@ -11,7 +11,7 @@
 glass_answer NAME(build)(const uint32_t *, size_t, const uint32_t *, size_t, uint32_t *, size_t);
 glass_answer NAME(check)(const uint32_t *, size_t);
 glass_found NAME(lookup)(const uint32_t *, size_t, uint32_t);
-glass_found NAME(panel)(const uint32_t *, size_t, const uint32_t *, size_t);
+glass_found NAME(panel)(const uint32_t *, size_t, const uint32_t *, size_t, const uint32_t *, size_t);
 glass_answer NAME(pairs)(const uint32_t *, size_t, uint32_t *, size_t, uint32_t *, size_t);
 
 static size_t total(const uint32_t *words) { return 3 + 2 * ((size_t)words[0] + words[1]); }
@@ -45,11 +45,11 @@ static uint32_t chain(const void *words, const uint32_t *codes, size_t count, ui
     return last;
 }
 
-static uint64_t panels(const void *words, const uint32_t *codes, size_t count) {
+static uint64_t panels(const void *words, const uint32_t *holds, const uint32_t *codes, size_t each, size_t count) {
     size_t len = total(words);
     uint64_t s = 0;
     for (size_t i = 0; i < count; i++) {
-        glass_found a = NAME(panel)(words, len, codes + 64 * i, 64);
+        glass_found a = NAME(panel)(words, len, holds, 999, codes + each * i, each);
         s += a.number == 0 ? a.value : 0;
     }
     return s;

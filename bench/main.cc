@@ -47,8 +47,8 @@ enum { ROUNDS = 31, QUERIES = 65536, PARTS = 4, QUERIES_OF_PART = QUERIES / PART
 const size_t sizes[] = {16, 256, 2048};
 enum { SIZES = 3 };
 
-enum Operation { HITS, MISSES, HALF, CHAIN, PANEL, BUILD, CHECK, PAIRS, OPERATIONS };
-const char *const operation_names[] = {"hits", "misses", "half", "chain", "panel", "build", "check", "read back"};
+enum Operation { HITS, MISSES, HALF, CHAIN, PANEL_64, PANEL_4, BUILD, CHECK, PAIRS, OPERATIONS };
+const char *const operation_names[] = {"hits", "misses", "half", "chain", "panel of 64", "panel of 4", "build", "check", "read back"};
 const char *const kind_names[] = {"random", "arithmetic progressions", "multiples of a number", "r + 4,096 t"};
 
 // what is timed by the size of the table
@@ -159,6 +159,14 @@ void add_round(std::vector<Series> &results, const std::vector<double> &spent, d
 
 // ---- lookups
 
+const Words holds = fixed_holds();
+
+// the codes of each panel; 0 where there are none
+size_t each_panel(Operation o) { return o == PANEL_64 ? 64 : o == PANEL_4 ? 4 : 0; }
+
+// Which of two schedules decides a panel: that with the longer hold, of equal holds the lesser.
+bool decides(uint32_t s, uint32_t t) { return holds[s - 1] != holds[t - 1] ? holds[s - 1] > holds[t - 1] : s < t; }
+
 // What is asked in one part of a round.
 struct Asked {
     Words codes, answers;
@@ -178,7 +186,8 @@ Asked asked(const List &l, const std::vector<uint16_t> &schedule_of, Operation o
         a.codes[i] = code, a.answers[i] = schedule_of[code];
         a.sum += a.answers[i];
     }
-    for (size_t i = 0; i < QUERIES_OF_PART; i += 64) a.panels += *std::max_element(&a.answers[i], &a.answers[i] + 64);
+    if (const size_t each = each_panel(o))
+        for (size_t i = 0; i < QUERIES_OF_PART; i += each) a.panels += *std::min_element(&a.answers[i], &a.answers[i] + each, decides);
     return a;
 }
 
@@ -186,11 +195,11 @@ volatile uint32_t zero = 0;
 
 uint64_t run(const structure &s, const void *t, const Asked &a, Operation o) {
     if (o == CHAIN) return s.chain(t, a.codes.data(), QUERIES_OF_PART, zero);
-    if (o == PANEL) return s.panels(t, a.codes.data(), QUERIES_OF_PART / 64);
+    if (const size_t each = each_panel(o)) return s.panels(t, holds.data(), a.codes.data(), each, QUERIES_OF_PART / each);
     return s.sum(t, a.codes.data(), QUERIES_OF_PART);
 }
 
-uint64_t expected(const Asked &a, Operation o) { return o == CHAIN ? a.answers.back() : o == PANEL ? a.panels : a.sum; }
+uint64_t expected(const Asked &a, Operation o) { return o == CHAIN ? a.answers.back() : each_panel(o) ? a.panels : a.sum; }
 
 // The fixed list of a size, and its table in each structure.
 struct Tables {
@@ -242,7 +251,7 @@ void lookups(const std::vector<structure> &all, int size, bool timed, Results &r
     Words out(QUERIES_OF_PART);
     Random r(11);
     for (int round = 0; round < ROUNDS; round++)
-        for (int o = HITS; o <= PANEL; o++) {
+        for (int o = HITS; o <= PANEL_4; o++) {
             std::vector<double> spent(all.size());
             for (int part = 0; part < PARTS; part++) {
                 Asked a = asked(t.list, t.schedule_of, (Operation)o, PARTS * round + part);

@@ -166,20 +166,21 @@ template <class T> uint32_t chain(const void *v, const uint32_t *codes, size_t c
     return last;
 }
 
-template <class T> uint64_t panels(const void *v, const uint32_t *codes, size_t count) {
+template <class T> uint64_t panels(const void *v, const uint32_t *holds, const uint32_t *codes, size_t each, size_t count) {
     const T &t = *(const T *)v;
     uint64_t s = 0;
     for (size_t i = 0; i < count; i++) {
-        uint32_t largest = 0;
-        for (size_t u = 0; u < 64; u++) {
-            uint32_t schedule = t.get(codes[64 * i + u]);
-            if (schedule == 0) {
-                largest = 0;
+        if (holds_refused(holds)) continue;
+        uint32_t highest = 0;
+        for (size_t u = 0; u < each; u++) {
+            uint32_t rank = rank_of(holds, t.get(codes[each * i + u]));
+            if (rank == 0) {
+                highest = 0;
                 break;
             }
-            largest = std::max(largest, schedule);
+            highest = std::max(highest, rank);
         }
-        s += largest;
+        s += ranked(highest);
     }
     return s;
 }
@@ -200,13 +201,13 @@ template <class T> structure made(const char *name) {
 } // namespace
 
 extern "C" {
-#define OF_RUST(map)                                                                   \
-    void *map##_build(const uint32_t *, const uint32_t *, size_t, uint32_t *);         \
-    void map##_drop(void *);                                                           \
-    void map##_answers(const void *, const uint32_t *, size_t, uint32_t *);            \
-    uint64_t map##_sum(const void *, const uint32_t *, size_t);                        \
-    uint32_t map##_chain(const void *, const uint32_t *, size_t, uint32_t);            \
-    uint64_t map##_panels(const void *, const uint32_t *, size_t);                     \
+#define OF_RUST(map)                                                                         \
+    void *map##_build(const uint32_t *, const uint32_t *, size_t, uint32_t *);               \
+    void map##_drop(void *);                                                                 \
+    void map##_answers(const void *, const uint32_t *, size_t, uint32_t *);                  \
+    uint64_t map##_sum(const void *, const uint32_t *, size_t);                              \
+    uint32_t map##_chain(const void *, const uint32_t *, size_t, uint32_t);                  \
+    uint64_t map##_panels(const void *, const uint32_t *, const uint32_t *, size_t, size_t); \
     size_t map##_pairs(const void *, uint32_t *, uint32_t *);
 OF_RUST(std)
 OF_RUST(fx)

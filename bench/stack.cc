@@ -76,6 +76,7 @@ std::vector<Case> all_cases() {
 std::string stacks_of_calls() {
     const std::vector<Case> cases = all_cases();
     Words words(glass_words(2049)), codes(2049), schedules(2049);
+    const Words in_use = fixed_holds(), no_use(999);
     std::vector<uint8_t> text(glass_text_bytes(2049));
     // of what is asked of a code: one that is there, one that mostly is not, and one that is refused; of lent memory, enough and too little
     auto each = [&](auto call) {
@@ -95,8 +96,9 @@ std::string stacks_of_calls() {
          })},
         {"glass_check", each([&](const Functions &f, const Case &c, uint32_t, bool) { f.check(c.table.data(), c.table.size()); })},
         {"glass_lookup", each([&](const Functions &f, const Case &c, uint32_t code, bool) { f.lookup(c.table.data(), c.table.size(), code); })},
-        {"glass_panel", each([&](const Functions &f, const Case &c, uint32_t, bool enough) {
-             f.panel(c.table.data(), c.table.size(), c.list.codes.data(), std::min<size_t>(c.n(), enough ? 64 : 65));
+        {"glass_panel", each([&](const Functions &f, const Case &c, uint32_t code, bool enough) {
+             const Words &holds = code == 1 ? no_use : in_use; // of a code that is refused one hold is missing
+             f.panel(c.table.data(), c.table.size(), holds.data(), holds.size() - !code, c.list.codes.data(), std::min<size_t>(c.n(), enough ? 64 : 65));
          })},
         {"glass_pairs", each([&](const Functions &f, const Case &c, uint32_t, bool enough) {
              f.pairs(c.table.data(), c.table.size(), codes.data(), c.n(), schedules.data(), c.n() - !enough);

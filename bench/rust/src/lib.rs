@@ -93,19 +93,39 @@ unsafe fn chain<M: Map>(map: *const M, codes: *const u32, count: usize, zero: u3
     from_raw_parts(codes, count).iter().fold(0, |last, code| (*map).get(*code + (last & zero)))
 }
 
-unsafe fn panels<M: Map>(map: *const M, codes: *const u32, count: usize) -> u64 {
+/// Whether a hold is too long. Read through a pointer that the compiler does not know, so that it is asked of each panel anew.
+unsafe fn holds_refused(holds: *const u32) -> bool {
+    let of_panel = from_raw_parts(std::ptr::read_volatile(&holds), 999);
+    of_panel.iter().fold(false, |wrong, hold| wrong | (*hold > 10080))
+}
+
+/// The schedule with the highest rank decides; 0 where the code is absent or the schedule not in use.
+#[inline(always)]
+fn rank_of(holds: &[u32], schedule: u32) -> u32 {
+    let hold = if schedule == 0 { 0 } else { holds[schedule as usize - 1] };
+    if hold == 0 {
+        0
+    } else {
+        hold << 10 | (1023 - schedule)
+    }
+}
+
+unsafe fn panels<M: Map>(map: *const M, holds: *const u32, codes: *const u32, each: usize, count: usize) -> u64 {
     let mut total = 0;
-    for panel in from_raw_parts(codes, 64 * count).chunks_exact(64) {
-        let mut largest = 0;
+    for panel in from_raw_parts(codes, each * count).chunks_exact(each) {
+        if holds_refused(holds) {
+            continue;
+        }
+        let mut highest = 0;
         for code in panel {
-            let schedule = (*map).get(*code);
-            if schedule == 0 {
-                largest = 0;
+            let rank = rank_of(from_raw_parts(holds, 999), (*map).get(*code));
+            if rank == 0 {
+                highest = 0;
                 break;
             }
-            largest = largest.max(schedule);
+            highest = highest.max(rank);
         }
-        total += u64::from(largest);
+        total += if highest == 0 { 0 } else { u64::from(1023 - (highest & 1023)) };
     }
     total
 }
@@ -143,8 +163,8 @@ macro_rules! exported {
             chain(map, codes, count, zero)
         }
         #[no_mangle]
-        pub unsafe extern "C" fn $panels(map: *const $map, codes: *const u32, count: usize) -> u64 {
-            panels(map, codes, count)
+        pub unsafe extern "C" fn $panels(map: *const $map, holds: *const u32, codes: *const u32, each: usize, count: usize) -> u64 {
+            panels(map, holds, codes, each, count)
         }
         #[no_mangle]
         pub unsafe extern "C" fn $pairs(map: *const $map, codes: *mut u32, schedules: *mut u32) -> usize {
