@@ -46,16 +46,12 @@ module _ (c : tie.After-lookup-in Inv-loop μ-loop) where
   abbrev args : tie.Start Inv-loop μ-loop
   args = start (turn .before .before)
 
-  looked-up :
-      foundOf (c .lookup-in .result)
-      ≡ lookupOf (args .args .p) (args .args .limit) (args .args .words .now) (getD (args .args .codes .now) (turn .before .loop .i) 0)
-  looked-up = c .lookup-in .ensures ∙ by-prime (turn .before .before) _
-
 returns : tie.Need-returns Inv-loop μ-loop
 returns c =
     let found = c .before .before in
     c .ended .ensures ∙
-    walk-ends _ _ _ _ _ _ _ (turn found .loop-test .taken) (turn found .before .loop .inv .1 .none-ends) (looked-up found) (unfound-ends (args found .args .holds .now) (found .lookup-in .result) (c .before .match .keys2))
+    walk-ends _ _ _ _ _ _ _ (turn found .loop-test .taken) (turn found .before .loop .inv .1 .none-ends) (found .lookup-in .ensures ∙ by-prime (turn found .before .before) _)
+    (unfound-ends (args found .args .holds .now) (found .lookup-in .result) (c .before .match .keys2))
 
 -- its schedule, where it gives one
 module _ (c : tie.After-known-told Inv-loop μ-loop) where
@@ -71,18 +67,10 @@ module _ (c : tie.After-known-told Inv-loop μ-loop) where
   its-schedule :
       lookupOf (args found .args .p) (args found .args .limit) (args found .args .words .now) (getD (args found .args .codes .now) (turn found .before .loop .i) 0)
       ≡ given (s ∷ at ∷ [])
-  its-schedule = sym (looked-up found) ∙ ap foundOf (c .before .f .given .1)
+  its-schedule = sym (found .lookup-in .ensures ∙ by-prime (turn found .before .before) _) ∙ ap foundOf (c .before .f .given .1)
 
   range : (1 ≤ s) × (s ≤ 999)
   range = schedule-range _ _ _ _ s at its-schedule
-
-sub-hold : tie.Need-sub-hold Inv-loop μ-loop
-sub-hold c = omega (arith, range (c .before) .0, c .wide .ensures .value)
-
-shared-slice-read-hold : tie.Need-shared-slice-read-hold Inv-loop μ-loop
-shared-slice-read-hold c =
-    let wide = c .before in
-    omega (arith, range (wide .before) .1, wide .wide .ensures .value, args (found (wide .before)) .pre .1 .1 .0)
 
 -- its hold
 module _ (c : tie.After-shared-slice-known5 Inv-loop μ-loop) where
@@ -111,6 +99,14 @@ loop-again c =
       omega (arith, turn looked .loop-test .taken),
       walk-on _ _ _ _ _ _ _ _ (turn looked .before .loop .inv .1) (its-schedule (told at-hold)) (its-hold at-hold) (c .before .if1 .left) (c .decide .ensures),
     )
+
+sub-hold : tie.Need-sub-hold Inv-loop μ-loop
+sub-hold c = omega (arith, range (c .before) .0, c .wide .ensures .value)
+
+shared-slice-read-hold : tie.Need-shared-slice-read-hold Inv-loop μ-loop
+shared-slice-read-hold c =
+    let wide = c .before in
+    omega (arith, range (wide .before) .1, wide .wide .ensures .value, args (found (wide .before)) .pre .1 .1 .0)
 
 returns-3 : tie.Need-returns-3 Inv-loop μ-loop
 returns-3 c =
