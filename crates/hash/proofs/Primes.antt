@@ -114,3 +114,11 @@ prime-by-trial p s two small t = record { two-le = two; no-divisor = go }
 pub prime-65537 : Prime 65537
 unfolding undivided
 prime-65537 = prime-by-trial 65537 256 (lit≤ tt) (lit< tt) refl
+
+pub prime-1000003 : Prime 1000003
+unfolding undivided
+prime-1000003 = prime-by-trial 1000003 1000 (lit≤ tt) (lit< tt) refl
+
+pub prime-2147483647 : Prime 2147483647
+unfolding undivided
+prime-2147483647 = prime-by-trial 2147483647 46340 (lit≤ tt) (lit< tt) refl

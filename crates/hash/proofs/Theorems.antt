@@ -2,7 +2,7 @@
 -- smaller one would be refused for its number.
 use native.Mathlib.Omega.{arith}
 use Rattle.hash.specs.Theorems.{Theorems}
-use Rattle.hash.proofs.Primes.{euclid, prime-65537}
+use Rattle.hash.proofs.Primes.{euclid, prime-65537, prime-1000003, prime-2147483647}
 use Rattle.hash.proofs.Collisions.{collisions}
 use Rattle.hash.proofs.Multipliers.{sum-together, blocks-exist, cells-exist}
 use Rattle.hash.proofs.Members.{members-codes}
@@ -13,6 +13,8 @@ theorems =
     record {
       euclid = euclid;
       prime-65537 = prime-65537;
+      prime-1000003 = prime-1000003;
+      prime-2147483647 = prime-2147483647;
       collisions = λ prime w x y pos hx hy differ. omega (arith, collisions prime w x y pos hx hy differ);
       sum-together = sum-together;
       blocks-exist = λ prime codes c pos. let (k, lo, hi, few) = blocks-exist prime codes c pos in (k, lo, hi, omega arith);

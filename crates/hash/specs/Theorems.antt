@@ -27,8 +27,10 @@ pub record Least (test : ℕ → Bool) (p k : ℕ) : Type 0 where
 pub record Theorems : Type 1 where
   -- Euclid's lemma
   pub euclid : {p : ℕ} → Prime p → (a b : ℕ) → 0 < a → a < p → (a * b) % p ≡ 0 → b % p ≡ 0
-  -- the prime of the product
+  -- the prime of the product, and two that are larger
   pub prime-65537 : Prime 65537
+  pub prime-1000003 : Prime 1000003
+  pub prime-2147483647 : Prime 2147483647
   -- source 000, lemma 1, for one pair: at most 2 * ((p - 1) / w) multipliers put two codes together
   pub collisions :
       {p : ℕ} → Prime p → (w x y : ℕ) → 0 < w → x < p → y < p → (x ≡ y → ⊥)
