@@ -20,3 +20,9 @@ pub mod Order
 pub mod Among
 pub mod Choosing
 pub mod Probing
+-- Pairs side by side and in groups, how long groups are, how pairs are scattered into them, and digits.
+pub mod Paired
+pub mod Groups
+pub mod Counts
+pub mod Scattering
+pub mod Halves

@@ -1,55 +1,66 @@
--- `lists::repeats::first_by_residues` meets its contract. Invariant: the residue of each code before i is in the bit set, and none of these codes is
--- repeated. The measure is what is left.
-use Prim.Native.Nat.{_-_, _≤_}
+-- `lists::repeats::first_by_residues` meets its contract. Invariant: the residue of each code before `from` is in the bit set, and none of these codes is
+-- repeated. The measure is the collisions that are left.
+use Prim.Native.Nat.{ℕ, _<_, _≤_}
+use mathlib.Core.List.{List}
 use mathlib.Core.Path.{refl, sym, _∙_}
+use native.Mathlib.Decide.{decLt}
 use native.Mathlib.Omega.{arith}
-use borrow.Author.Needs.{needs}
-use borrow.Author.Tests.{eqb-true, not-false}
 use lib.ListN.{length}
-use Rattle.hash.proofs.BitSets.{single-is}
 use Rattle.table.proofs.First.{Below, below-none, below-next, first-found, first-end}
 use Rattle.lists.specs.List.{repeated}
-use Rattle.lists.proofs.Residues.{ResiduesTaken, residues-start, residues-new, residues-more}
+use Rattle.lists.specs.code.Residues.{ResiduesTaken}
+use Rattle.lists.proofs.Residues.{residues-start}
 use Rattle.lists.proofs.repeats.first_by_residues.Statement.{statement}
 use Rattle.lists.proofs.repeats.first_by_residues.Tie as tie
 
 abbrev Inv-loop : tie.InvT-loop
-Inv-loop codes taken₀ i₀ taken i = ResiduesTaken codes i taken × ((i ≤ length codes) × Below (repeated codes) i)
+Inv-loop codes taken₀ from₀ left₀ taken from left = ResiduesTaken codes from taken × ((from ≤ length codes) × Below (repeated codes) from)
 
 abbrev μ-loop : tie.MeasureT-loop
-μ-loop codes taken₀ i₀ taken i = length codes - i
+μ-loop codes taken₀ from₀ left₀ taken from left = left
 
 loop-holds : tie.Need-loop-holds Inv-loop μ-loop
-loop-holds c = (residues-start _ _ refl, (search needs, below-none _))
+loop-holds c = (residues-start _ _ refl, (omega arith, below-none _))
 
-array-read-before : tie.Need-array-read-before Inv-loop μ-loop
-array-read-before c = omega (arith, c .before .before .loop .inv .0 .sized)
+-- none before the collision is repeated
+module _ (c : tie.After-next-collision Inv-loop μ-loop) where
+  abbrev at : tie.At-loop Inv-loop μ-loop
+  at = c .before .before .before
 
-is-repeated-requires : tie.Need-is-repeated-requires Inv-loop μ-loop
-is-repeated-requires c κs =
-    let turn = c .before in (
-      turn .loop-test .taken,
-      λ e. residues-new (turn .before .loop .inv .0) _ (single-is _ (omega arith)) (turn .loop-test .taken) (eqb-true _ 0 (not-false _ e)),
-    )
+  abbrev codes : List ℕ
+  codes = at .before .before .args .codes .now
+
+  below : Below (repeated codes) (c .next-collision .result)
+  below j l =
+      elim (decLt j (at .loop .from)) [
+        | yes before ↦ at .loop .inv .1 .1 j before
+        | no after ↦ c .next-collision .ensures .none j (omega arith) l
+      ]
 
 returns : tie.Need-returns Inv-loop μ-loop
-returns c =
-    let turn = c .before .before .before in
-    let at = turn .before .loop in
-    sym (first-found _ _ (at .i) (turn .loop-test .taken) (at .inv .1 .1) (sym (c .before .is-repeated .ensures) ∙ c .if1 .taken))
+returns c l =
+    let h = c .before .before in
+    sym (first-end _ _ (h .next-collision .result) l (omega (arith, c .if1 .taken)) (below h))
 
-array-write-taken : tie.Need-array-write-taken Inv-loop μ-loop
-array-write-taken c = omega (arith, c .before .before .before .before .loop .inv .0 .sized)
+is-repeated-requires : tie.Need-is-repeated-requires Inv-loop μ-loop
+is-repeated-requires c κs = omega (arith, c .before .before .next-collision .ensures .within)
+
+returns-2 : tie.Need-returns-2 Inv-loop μ-loop
+returns-2 c l =
+    let h = c .before .before .before .before in
+    let left : h .next-collision .result < length (codes h) = omega (arith, c .before .before .if1 .left) in
+    sym (first-found _ _ (h .next-collision .result) left (below h) (sym (c .before .is-repeated .ensures) ∙ c .if2 .taken))
 
 loop-again : tie.Need-loop-again Inv-loop μ-loop
 loop-again c =
-    let at = c .before .before .before .before .loop in (
-      residues-more (at .inv .0) _ (single-is _ (omega arith)),
-      (search needs, below-next _ (at .i) (at .inv .1 .1) (sym (c .before .is-repeated .ensures) ∙ c .if1 .left)),
+    let h = c .before .before .before .before in
+    let left : h .next-collision .result < length (codes h) = omega (arith, h .next-collision .ensures .within, c .before .before .if1 .left) in (
+      h .next-collision .ensures .residues left,
+      (omega arith, below-next _ (h .next-collision .result) (below h) (sym (c .before .is-repeated .ensures) ∙ c .if2 .left)),
     )
 
-returns-2 : tie.Need-returns-2 Inv-loop μ-loop
-returns-2 c = let at = c .before .loop in sym (first-end _ _ (at .i) (at .inv .1 .0) (c .loop-test .left) (at .inv .1 .1))
+returns-3 : tie.Need-returns-3 Inv-loop μ-loop
+returns-3 c l = absurd (omega arith)
 
 pub first-by-residues-spec : {M : Type 1} → statement M
 first-by-residues-spec =
@@ -58,17 +69,14 @@ first-by-residues-spec =
     Inv-loop
     μ-loop
     loop-holds
-    (λ c. search needs)
-    (λ c. search needs)
-    (λ c. omega (arith, c .shared-slice-known2 .given (c .before .before .loop .i)))
-    (λ c. omega arith)
-    (λ c. omega arith)
-    array-read-before
-    is-repeated-requires
+    (λ c. sym (c .before .before .loop .inv .0 .sized))
+    (λ c κs. let inv = c .before .before .loop .inv in (inv .0, inv .1 .0))
     returns
-    (λ c. omega arith)
-    array-write-taken
-    (λ c. search needs)
-    (λ c. search needs)
+    is-repeated-requires
+    returns-2
+    (λ c. omega (arith, c .before .before .before .before .next-collision .ensures .within))
+    (λ c. c .before .before .before .before .before .before .loop-test .taken)
+    (λ c. omega (arith, c .before .before .before .before .before .before .loop-test .taken))
     loop-again
-    returns-2)
+    (λ c. omega arith)
+    returns-3)

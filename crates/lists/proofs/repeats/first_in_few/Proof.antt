@@ -1,6 +1,5 @@
 -- `lists::repeats::first_in_few` meets its contract. Invariant: no code before i is repeated. The measure is what is left.
 use Prim.Native.Nat.{_-_, _≤_}
-use mathlib.Core.Bool.{true≢false}
 use mathlib.Core.Path.{sym, _∙_}
 use borrow.Author.Needs.{needs}
 use lib.ListN.{length}
@@ -19,7 +18,7 @@ loop-holds : tie.Need-loop-holds Inv-loop μ-loop
 loop-holds c = (search needs, below-none _)
 
 is-repeated-requires : tie.Need-is-repeated-requires Inv-loop μ-loop
-is-repeated-requires c κs = (c .loop-test .taken, λ e. absurd (true≢false e))
+is-repeated-requires c κs = c .loop-test .taken
 
 returns : tie.Need-returns Inv-loop μ-loop
 returns c =
