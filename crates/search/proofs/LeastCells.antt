@@ -15,7 +15,8 @@ use Rattle.table.proofs.Chosen.{cells-least}
 use Rattle.search.specs.code.Searchable.{Searchable}
 use Rattle.table.specs.Limits.{room}
 use Rattle.search.specs.code.Cells.{square, separates, filledBy, Unplaced, Placing, Tried, Separated}
-use Rattle.search.proofs.Tries.{Trying, trying-start, trying-more, trying-found}
+use Rattle.search.specs.code.Jumps.{Passed}
+use Rattle.search.proofs.Tries.{Trying, trying-start, trying-more, trying-skip, trying-found}
 use Rattle.search.proofs.Places.{placing-all}
 
 -- the cells of a block that is not placed
@@ -110,3 +111,8 @@ module _ {p q : ℕ} {block old new : List ℕ} {r : Bool} (tried : Tried p q bl
   cells-more h fails =
       let e : separates p block q ≡ false = sym (tried .answer) ∙ fails in
       (trying-more h e, tried .cells ∙ rw e)
+
+-- what is passed over separates no block
+pub cells-skip : {p q r : ℕ} {block : List ℕ} → TryingCells p block q → Passed p (square block) 0 block q r → TryingCells p block r
+cells-skip {p} {q} {r} {block} h passed =
+    trying-skip h (passed .from) (λ j l m. ne-eqb (together p j (square block) block) 0 (λ none. absurd (omega (arith, passed .over j l m))))

@@ -9,3 +9,9 @@ pub mod Taking
 pub mod BlockCells
 pub mod LeastCells
 pub mod Twos
+pub mod Together
+pub mod Crowding
+pub mod Beginning
+pub mod Straight
+pub mod Keys
+pub mod Passing

@@ -1,7 +1,7 @@
 -- A search that tries the multipliers 1, 2, 3, .. by a test. The least one that passes, r, is below p. While k is at most r none before it
 -- passes: so a k that passes is r, and a k that fails has one after it. The search needs no end of its own.
-use Prim.Native.Nat.{ℕ, _+_, _≤_}
-use native.Mathlib.Decide.{ℕ-discrete}
+use Prim.Native.Nat.{ℕ, _+_, _<_, _≤_}
+use native.Mathlib.Decide.{ℕ-discrete, decLe}
 use native.Mathlib.Omega.{arith}
 use mathlib.Core.Bool.{Bool, true, false, true≢false}
 use mathlib.Core.Path.{_≡_, sym, ap, _∙_}
@@ -29,4 +29,12 @@ module _ {test : ℕ → Bool} {p r : ℕ} where
       elim (ℕ-discrete k r) [
         | yes e ↦ e
         | no ne ↦ absurd (true≢false (sym passes ∙ h .least .least k (h .from-one) (omega (arith, h .upto))))
+      ]
+
+  -- all from k on and before m fail: they are passed over
+  pub trying-skip : {k m : ℕ} → Trying test p r k → k ≤ m → ((j : ℕ) → k ≤ j → j < m → test j ≡ false) → Trying test p r m
+  trying-skip {k} {m} h later fails =
+      elim (decLe m r) [
+        | yes le ↦ record { least = h .least; from-one = omega (arith, h .from-one); upto = le }
+        | no gt ↦ absurd (true≢false (sym (h .least .passes) ∙ fails r (h .upto) (omega arith)))
       ]

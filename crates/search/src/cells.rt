@@ -10,6 +10,7 @@ ghost use Rattle.hash.specs.Hash.{hashOf, together, Codes};
 ghost use Rattle.hash.specs.code.Contract.{Ready, Hashing};
 ghost use Rattle.search.specs.code.Cells.{square, Unplaced, Placing, Tried, Separated};
 ghost use Rattle.search.specs.code.Searchable.{Searchable};
+use crate::jumps::after;
 use hash::Hasher;
 use table::numbers::one;
 
@@ -69,7 +70,7 @@ fn cells_multiplier(p: u32, reciprocal: u64, block: &[u32], cells: &mut [u32]) -
             undo(h, block, 0, cells);
             return q;
         }
-        q += 1;
+        q = after(p, places, 0, q, block);
     }
     q
 }
@@ -109,7 +110,7 @@ fn few_multiplier(p: u32, w: u32, reciprocal: u64, block: &[u32]) -> u32
         },
         block,
     ) {
-        q += 1;
+        q = after(p, w, 0, q, block);
     }
     q
 }
@@ -131,8 +132,9 @@ pub fn two_multiplier(p: u32, a: u32, b: u32) -> u32
     let first = one(a % 4 == b % 4);
     let second = one(collide(p, 2, a, b));
     let mut q = 1 + first * (1 + second);
+    let two = [a, b];
     while collide(p, q, a, b) {
-        q += 1;
+        q = after(p, 4, 0, q, &two);
     }
     q
 }

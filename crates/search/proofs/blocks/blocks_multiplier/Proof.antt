@@ -6,7 +6,7 @@ use native.Mathlib.Omega.{arith}
 use borrow.Author.Needs.{needs}
 use lib.ListN.{length}
 use Rattle.hash.proofs.Reciprocals.{ready}
-use Rattle.search.proofs.LeastBlocks.{TryingBlocks, blocks-start, blocks-found, blocks-more}
+use Rattle.search.proofs.LeastBlocks.{TryingBlocks, blocks-start, blocks-found, blocks-more, blocks-skip}
 use Rattle.search.proofs.blocks.blocks_multiplier.Statement.{statement}
 use Rattle.search.proofs.blocks.blocks_multiplier.Tie as tie
 
@@ -45,12 +45,18 @@ returns c =
 
 loop-again : tie.Need-loop-again Inv-loop μ-loop
 loop-again c =
-    let called = c .before .before .before .before .before .before in
+    let told = c .before in
+    let called = told .before .before .before .before .before .before in
     let h = called .before .before .before .before in
-    let codes = h .before .before .before .before .before .args .codes .now in (
-      blocks-more codes (h .loop .inv .0) (called .count-cells .ensures .answers) (c .enum-told .given .1),
+    let start = h .before .before .before .before .before in
+    let codes = start .args .codes .now in (
+      blocks-skip codes (start .pre .0 .1)
+          (blocks-more codes (h .loop .inv .0) (called .count-cells .ensures .answers) (told .enum-told .given .1)) (c .next-multiplier .ensures),
       search needs,
     )
+
+next-multiplier-requires : tie.Need-next-multiplier-requires Inv-loop μ-loop
+next-multiplier-requires c κs = (c .before .before .before .before .before .before .before .before .before .before .before .before .before .before .before .pre .0, omega arith)
 
 -- the loop is left by its answer alone: the least multiplier is below p
 returns-2 : tie.Need-returns-2 Inv-loop μ-loop
@@ -71,8 +77,8 @@ blocks-multiplier-spec =
     (λ c. search needs)
     returns
     (λ c. search needs)
-    (λ c. omega arith)
-    (λ c. omega arith)
+    next-multiplier-requires
+    (λ c. let h = loop-again c in omega (arith, h .0 .upto, h .0 .least .below))
     loop-again
     (λ c. search needs)
     (λ c. search needs)

@@ -4,7 +4,7 @@ use Prim.Native.Nat.{ℕ, _-_}
 use mathlib.Core.Path.{_≡_, refl, sym, ap, _∙_}
 use native.Mathlib.Omega.{arith}
 use lib.ListN.{length, replicate}
-use Rattle.search.proofs.LeastCells.{TryingCells, unplaced-square, unplaced-few, cells-start, cells-found, cells-filled, cells-more}
+use Rattle.search.proofs.LeastCells.{TryingCells, unplaced-square, unplaced-few, cells-start, cells-found, cells-filled, cells-more, cells-skip}
 use Rattle.search.proofs.cells.cells_multiplier.Statement.{statement}
 use Rattle.search.proofs.cells.cells_multiplier.Tie as tie
 
@@ -58,10 +58,19 @@ same-length c = ap length (returns c .1)
 
 loop-again : tie.Need-loop-again Inv-loop μ-loop
 loop-again c =
-    let called = c .before .before .before in
+    let told = c .before in
+    let called = told .before .before .before in
     let h = called .before .before .before in
-    let (next, kept) = cells-more (called .place-block .ensures) (h .loop .inv .0) (c .if1 .left) in
-    (next, kept ∙ h .loop .inv .1)
+    let start = h .before .before .before in
+    let (next, kept) = cells-more (called .place-block .ensures) (h .loop .inv .0) (told .if1 .left) in
+    (cells-skip next (rw (← unplaced-square (start .pre .0)) (c .after .ensures)), kept ∙ h .loop .inv .1)
+
+after-requires : tie.Need-after-requires Inv-loop μ-loop
+after-requires c κs =
+    let h = c .before .before .before .before .before .before in
+    let start = h .before .before .before in
+    let codes = start .pre .0 .codes in
+    ((codes .valid, (omega arith, (start .pre .1 .1 .positive, omega (arith, codes .prime .two-le)))), omega arith)
 
 -- the loop is left by its answer alone: the least multiplier is below p
 returns-2 : tie.Need-returns-2 Inv-loop μ-loop
@@ -79,8 +88,8 @@ cells-multiplier-spec =
     undo-requires
     same-length
     returns
-    (λ c. omega arith)
-    (λ c. omega arith)
+    after-requires
+    (λ c. let h = loop-again c in omega (arith, h .0 .upto, h .0 .least .below))
     loop-again
     (λ c. ap length (c .before .loop .inv .1))
     returns-2)

@@ -6,7 +6,7 @@ use native.Mathlib.Omega.{arith}
 use borrow.Author.Tests.{not-true, not-false}
 use Rattle.table.specs.TwoLevel.{cellsMultiplier}
 use Rattle.search.proofs.Tries.{trying-more}
-use Rattle.search.proofs.LeastCells.{TryingCells, cells-start, cells-separated, few-cells}
+use Rattle.search.proofs.LeastCells.{TryingCells, cells-start, cells-separated, cells-skip, few-cells}
 use Rattle.search.proofs.cells.few_multiplier.Statement.{statement}
 use Rattle.search.proofs.cells.few_multiplier.Tie as tie
 
@@ -28,10 +28,24 @@ apart-requires c κs =
 
 loop-again : tie.Need-loop-again Inv-loop μ-loop
 loop-again c =
-    let called = c .before in
+    let told = c .before in
+    let called = told .before in
     let at = called .before in
-    trying-more (at .loop .inv)
-    (rw (← at .before .before .pre .0 .1) (sym (called .apart .ensures) ∙ not-true _ (c .if1 .taken)))
+    let start = at .before .before in
+    cells-skip (trying-more (at .loop .inv) (rw (← start .pre .0 .1) (sym (called .apart .ensures) ∙ not-true _ (told .if1 .taken))))
+    (rw (← start .pre .0 .1) (c .after .ensures))
+
+after-requires : tie.Need-after-requires Inv-loop μ-loop
+after-requires c κs =
+    let at = c .before .before in
+    let start = at .before .before in
+    let codes = start .pre .0 .0 in (
+      (codes .valid, (omega arith, (start .pre .1 .1 .positive, omega (arith, codes .prime .two-le)))),
+      omega (arith, at .loop .inv .upto, at .loop .inv .least .below),
+    )
+
+loop-less : tie.Need-loop-less Inv-loop μ-loop
+loop-less c = let h = loop-again c in omega (arith, h .upto, c .after .ensures .from)
 
 returns : tie.Need-returns Inv-loop μ-loop
 returns c =
@@ -48,7 +62,7 @@ few-multiplier-spec =
     μ-loop
     (λ c. cells-start (c .before .pre .0 .0))
     apart-requires
-    (λ c. let h = loop-again c in omega (arith, h .upto, h .least .below))
-    (λ c. let h = loop-again c in omega (arith, h .upto))
+    after-requires
+    loop-less
     loop-again
     returns)

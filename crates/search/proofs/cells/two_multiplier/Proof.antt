@@ -6,16 +6,16 @@ use mathlib.Core.Path.{refl, sym, _∙_}
 use native.Mathlib.Omega.{arith}
 use borrow.Author.Needs.{needs}
 use Rattle.table.specs.TwoLevel.{cellsMultiplier}
-use Rattle.search.proofs.LeastCells.{TryingCells}
+use Rattle.search.proofs.LeastCells.{TryingCells, cells-skip}
 use Rattle.search.proofs.Twos.{two-below, first-test, two-start, two-more, two-found}
 use Rattle.search.proofs.cells.two_multiplier.Statement.{statement}
 use Rattle.search.proofs.cells.two_multiplier.Tie as tie
 
 abbrev Inv-loop : tie.InvT-loop
-Inv-loop p a b first second q₀ q = TryingCells p (a ∷ b ∷ []) q
+Inv-loop p a b first second q₀ two q = TryingCells p (a ∷ b ∷ []) q
 
 abbrev μ-loop : tie.MeasureT-loop
-μ-loop p a b first second q₀ q = cellsMultiplier p (a ∷ b ∷ []) - q
+μ-loop p a b first second q₀ two q = cellsMultiplier p (a ∷ b ∷ []) - q
 
 collide-requires : tie.Need-collide-requires Inv-loop μ-loop
 collide-requires c κs =
@@ -48,14 +48,21 @@ collide-requires-2 c κs =
 -- they share a cell: the next one is to be tried
 loop-again : tie.Need-loop-again Inv-loop μ-loop
 loop-again c =
-    let at = c .before .before in
-    two-more (at .before .before .before .before .pre) (at .loop .inv) (sym (c .before .collide2 .ensures) ∙ c .if1 .taken)
+    let told = c .before .before in
+    let called = told .before in
+    let at = called .before in
+    cells-skip (two-more (at .before .before .before .before .pre) (at .loop .inv) (sym (called .collide2 .ensures) ∙ told .if1 .taken)) (c .after .ensures)
 
-add-q-3 : tie.Need-add-q-3 Inv-loop μ-loop
-add-q-3 c = let h = loop-again c in omega (arith, h .upto, h .least .below)
+after-requires : tie.Need-after-requires Inv-loop μ-loop
+after-requires c κs =
+    let at = c .before .before .before in
+    let codes = at .before .before .before .before .pre in (
+      (codes .valid, (omega arith, (omega arith, omega (arith, codes .prime .two-le)))),
+      omega (arith, at .loop .inv .upto, at .loop .inv .least .below),
+    )
 
 loop-less : tie.Need-loop-less Inv-loop μ-loop
-loop-less c = let h = loop-again c in omega (arith, h .upto)
+loop-less c = let h = loop-again c in omega (arith, h .upto, c .after .ensures .from)
 
 -- they do not
 returns : tie.Need-returns Inv-loop μ-loop
@@ -77,7 +84,8 @@ two-multiplier-spec =
     add-q-2
     loop-holds
     collide-requires-2
-    add-q-3
+    (λ c. refl)
+    after-requires
     loop-less
     loop-again
     returns)
