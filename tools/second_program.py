@@ -1,15 +1,18 @@
 #!/usr/bin/env python3
 """A second implementation of the build, the check, the lookup, the panel and the listing of document 01, of lists as text
-and of test loads (document 02, Changes 1 and 2), of the cells that are found (Change 4) and of the holds that decide a
-panel (Change 5), to compare the proved ones with.
+and of test loads (document 02, Changes 1 and 2), of the cells that are found (Change 4), of the holds that decide a
+panel (Change 5) and of builds for each of three primes (Change 6), to compare the proved ones with.
 
 Written from the papers alone, with the standard library alone.
 
   tools/second_program.py make
-      writes the stored input and expected output of the programs `compare`, `compare_texts`, `compare_loads`,
-      `compare_lookups` and `make_*`
+      writes the stored input and expected output of the programs `compare`, `compare_primes`, `compare_texts`,
+      `compare_loads`, `compare_lookups` and `make_*`
   tools/second_program.py fresh SEED COUNT PROGRAM
       makes COUNT lists from SEED, runs PROGRAM (`compare`) on them and compares what it prints
+  tools/second_program.py fresh-primes SEED COUNT PROGRAM
+      makes COUNT lists from SEED, for each of the primes in turn, runs PROGRAM (`compare_primes`) on them and compares what
+      it prints
   tools/second_program.py fresh-texts SEED COUNT PROGRAM
       makes COUNT texts to read and lists to write from SEED, runs PROGRAM (`compare_texts`) on them and compares
       what it prints
@@ -24,12 +27,17 @@ Written from the papers alone, with the standard library alone.
   tools/second_program.py fresh-files SEED COUNT PROGRAM
       makes COUNT table files, whole and damaged, from SEED, runs PROGRAM (`list_table`) on each and compares what it
       prints; about every fourth is handed over in pieces through a pipe
+  tools/second_program.py least SEED COUNT
+      makes COUNT lists from SEED for smaller primes and compares the least multipliers that are searched for here with
+      those that are found by trying all
 
 All numbers of an input are four bytes, least first.
 
 Input of `compare`: for each list n, then n codes, then n schedules.
 Output: a line for each list, once for the list's order and once for the reverse: all words of its table where it has
 at most SHORT pairs, otherwise `n c k total digest`.
+
+Input of `compare_primes`: for each list the prime, then as for `compare`. Output: the same lines, with the prime before them.
 
 Input of `compare_texts`, one case after the other:
   0, the lent codes and the lent schedules (how many), the bytes of the text (how many), the text: it is read
@@ -54,6 +62,7 @@ Output:
   `found CODE NUMBER VALUE CELL` for each code that is looked up
   `fired NUMBER VALUE CELL`, what the panel answers
 """
+import bisect
 import collections
 import itertools
 import pathlib
@@ -87,15 +96,154 @@ MOST_HOLDS = 1024
 
 CRATES = pathlib.Path(__file__).resolve().parent.parent / "crates"
 
+# ---- the least multipliers
+
+# A multiplier k puts code a in place (k a mod p) mod w, and passes where at most so many pairs of codes share a place. To try all up to the
+# least that passes would take up to p tries. What is passed over here is known to fail.
+#
+# Take one of the codes, x, let u be k x mod p, and write another one as x + d, or p more or less than that. Then k a mod p is u + k d - p D,
+# where D is (u + k d) div p: codes whose d is the same mod w share a place where their D is the same. D does not fall where u rises, and over
+# a range of multipliers it lies between its values at the ends. So in a range of multipliers and a range of u where it is the same at all four
+# corners it is the same throughout; and if such codes alone make too many pairs, no multiplier of the range with such a u passes. Where those
+# with another u are, a descent like Euclid's tells.
+
+
+def passes(p, k, codes, w, most):
+    """Whether at most so many pairs of codes share one of w places."""
+    loads = {}
+    for a in codes:
+        place = k * a % p % w
+        load = loads.get(place, 0)
+        most -= load
+        if most < 0:
+            return False
+        loads[place] = load + 1
+    return True
+
+
+def by_remainder(codes, w):
+    """The codes that are equal mod w, by size."""
+    groups = collections.defaultdict(list)
+    for a in sorted(codes):
+        groups[a % w].append(a)
+    return list(groups.values())
+
+
+def too_crowded(p, k, groups, most):
+    """Whether no multiplier up to k passes, by the number of places alone: codes that are equal mod w share a place where their products are
+    between the same multiples of p, and from the first to the last of them there are no more than so many gaps between multiples."""
+    pairs = 0
+    for group in groups:
+        gaps = k * (group[-1] - group[0]) // p + 2
+        each, more = divmod(len(group), gaps)
+        pairs += gaps * each * (each - 1) // 2 + more * each
+    return pairs > most
+
+
+def open_ranges(p, first, last, distances, w, most):
+    """The ranges of u with which a multiplier from first to last may pass, as far as the codes at these distances tell."""
+    # D at first and at last with u = 0; each grows by one where u comes to the next multiple of p
+    ends = [[first * d // p, last * d // p] for d in distances]
+    grows = collections.defaultdict(list)
+    for i, d in enumerate(distances):
+        grows[-first * d % p].append((i, 0))
+        grows[-last * d % p].append((i, 1))
+    alike = collections.Counter()
+    pairs = 0
+
+    def count(i, sign):
+        nonlocal pairs
+        if ends[i][0] == ends[i][1]:
+            kind = distances[i] % w, ends[i][0]
+            alike[kind] += min(sign, 0)
+            pairs += sign * alike[kind]
+            alike[kind] += max(sign, 0)
+
+    for i in range(len(distances)):
+        count(i, 1)
+    ranges, since = [], 0
+    was_open = pairs <= most
+    for u in sorted(grows):
+        for i, end in grows[u] if u else []:
+            count(i, -1)
+            ends[i][end] += 1
+            count(i, 1)
+        if was_open and pairs > most:
+            ranges.append((since, u - 1))
+        elif not was_open and pairs <= most:
+            since = u
+        was_open = pairs <= most
+    return ranges + [(since, p - 1)] if was_open else ranges
+
+
+def first_within(a, m, low, high):
+    """The least j with a j mod m from low to high; None where there is none."""
+    if low == 0:
+        return 0
+    if a == 0:
+        return None
+    j = -(-low // a)
+    if a * j <= high:
+        return j
+    # no multiple of a is between them, so a j is above m: with a j - m i there, m i mod a is between -high and -low
+    i = first_within(m % a, a, -high % a, -low % a)
+    return None if i is None else -(-(low + m * i) // a)
+
+
+def multipliers_within(p, x, first, last, low, high):
+    """The multipliers k from first to last with k x mod p from low to high."""
+    k = first
+    while True:
+        start, end = (low - k * x) % p, (high - k * x) % p
+        j = first_within(x, p, start if start <= end else 0, end)
+        if j is None or k + j > last:
+            return
+        yield k + j
+        k += j + 1
+
+
+def tried(p, codes, w, most, multipliers):
+    """The first of these multipliers that passes; None where none does."""
+    return next((k for k in multipliers if passes(p, k, codes, w, most)), None)
+
+
+def least(p, codes, w, most, plain=512, few=64):
+    """The least multiplier that leaves at most so many pairs of codes in one of w places. The first `plain` are tried one by one, and so are as
+    many in a range where little can be passed over; of a longer range at most `few` are."""
+    found = tried(p, codes, w, most, range(1, min(plain + 1, p)))
+    if found:
+        return found
+    groups = by_remainder(codes, w)
+    crowded = bisect.bisect_left(range(1, p), True, key=lambda k: not too_crowded(p, k, groups, most))
+    k, width = max(plain, crowded) + 1, plain
+    largest = max(groups, key=len)
+    x = largest[len(largest) // 2]
+    distances = [(a - x + p // 2) % p - p // 2 for a in codes]
+    while k < p:
+        last = min(k + width, p) - 1
+        # the D of the others is not the same at both ends
+        near = [d for d in distances if abs(d) * (last - k) < p]
+        open_multipliers = (multipliers_within(p, x, k, last, low, high) for low, high in open_ranges(p, k, last, near, w, most))
+        multipliers = list(itertools.islice(itertools.chain.from_iterable(open_multipliers), few + 1))
+        if len(multipliers) > few and width > plain:
+            width //= 2
+            continue
+        found = tried(p, codes, w, most, sorted(multipliers) if len(multipliers) <= few else range(k, last + 1))
+        if found:
+            return found
+        k, width = last + 1, 2 * width
+    raise ValueError("no multiplier passes")
+
+
 # ---- a table
 
 
-def block_loads(codes, k, n):
+def block_loads(codes, k, n, p=P):
     """The codes of each of n blocks, or None once the squares of their numbers pass 3n - 2."""
     blocks = [[] for _ in range(n)]
     c = 0
     for a in codes:
-        block = blocks[k * a % P % n]
+        block = blocks[k * a % p % n]
         c += 2 * len(block) + 1
         if c > 3 * n - 2:
             return None
@@ -108,26 +256,29 @@ def parts(block, q, size):
     return len({q * a % P % size for a in block}) == len(block)
 
 
-def laid_out(k, blocks, sizes, multipliers, schedule):
+def laid_out(k, blocks, sizes, multipliers, schedule, p=P):
     """The words of a table whose blocks have these codes, these numbers of cells and these multipliers."""
     starts, cells = [], []
     for block, size, q in zip(blocks, sizes, multipliers):
         starts.append(len(cells))
         part = [0] * size
         for a in block:
-            part[q * a % P % size] = a
+            part[q * a % p % size] = a
         cells += part
     return [len(blocks), len(cells), k] + starts + multipliers + cells + [schedule.get(a, 0) for a in cells]
 
 
-def build(pairs):
+def build(pairs, p=P):
     """The words of the table of a valid list."""
     codes = [a for a, _ in pairs]
-    # an empty list lets every k pass and an empty block every q, so that the least is the 1 that they have
-    k, blocks = next((k, b) for k in range(1, P) for b in [block_loads(codes, k, len(codes))] if b is not None)
+    n = len(codes)
+    # the m × m cells of a block are its m codes and two for each pair of them: c is at most 3n - 2 where at most n - 1 pairs share a block.
+    # An empty list lets every k pass and an empty block every q, so that the least is the 1 that they have
+    k = least(p, codes, n, n - 1)
+    blocks = block_loads(codes, k, n, p)
     sizes = [len(block) ** 2 for block in blocks]
-    multipliers = [next(q for q in range(1, P) if parts(block, q, size)) for block, size in zip(blocks, sizes)]
-    return laid_out(k, blocks, sizes, multipliers, dict(pairs))
+    multipliers = [least(p, block, size, 0) for block, size in zip(blocks, sizes)]
+    return laid_out(k, blocks, sizes, multipliers, dict(pairs), p)
 
 
 def build_refused(pairs):
@@ -410,6 +561,23 @@ class Built(typing.NamedTuple):
         return line_of(words if len(self.pairs) <= SHORT else summary(words)) * 2
 
 
+class BuiltFor(typing.NamedTuple):
+    """A list that `compare_primes` builds for a prime, and its table."""
+
+    prime: int
+    pairs: list
+    words: list
+
+    def encoded(self):
+        return packed([self.prime]) + Built(self.pairs).encoded()
+
+    def answered(self):
+        return [("built", self.prime)]
+
+    def expected(self):
+        return line_of([self.prime] + (self.words if len(self.pairs) <= SHORT else summary(self.words))) * 2
+
+
 class Read(typing.NamedTuple):
     """A text that `compare_texts` reads."""
 
@@ -541,25 +709,25 @@ def size(r):
     return r.choice([r.randint(0, 12), r.randint(0, 12), r.randint(0, 100), r.randint(0, 100), r.randint(0, 600)])
 
 
-def random_codes(r, n):
+def random_codes(r, n, p=P):
     kind = r.randrange(6)
     if kind == 0:
-        return r.sample(range(1, P), n)
+        return r.sample(range(1, p), n)
     if kind == 1:
-        first = r.randint(1, P - max(n, 1))
+        first = r.randint(1, p - max(n, 1))
         return list(range(first, first + n))
     if kind == 2:
-        step = r.randint(1, max(1, (P - 2) // max(n, 1)))
-        first = r.randint(1, P - 1 - step * max(n - 1, 0))
+        step = r.randint(1, max(1, (p - 2) // max(n, 1)))
+        first = r.randint(1, p - 1 - step * max(n - 1, 0))
         return [first + step * i for i in range(n)]
     if kind == 3:
-        step = r.randint(1, max(1, (P - 1) // max(n, 1)))
+        step = r.randint(1, max(1, (p - 1) // max(n, 1)))
         return [step * (i + 1) for i in range(n)]
     if kind == 4:
-        return list(range(P - n, P))
+        return list(range(p - n, p))
     rest = r.randrange(4096)
-    spread = [rest + 4096 * t for t in range(17) if 1 <= rest + 4096 * t < P]
-    others = [a for a in r.sample(range(1, P), n) if a not in spread]
+    spread = [rest + 4096 * t for t in range(17) if 1 <= rest + 4096 * t < p]
+    others = [a for a in r.sample(range(1, p), n) if a not in spread]
     return (spread + others)[:n]
 
 
@@ -586,6 +754,103 @@ def stored_lists():
     ]
     pairs = [[(1, 7), (5, 8)], [(1, 1), (4, 2), (7, 3)]]
     return paper_lists() + pairs + [with_schedules(r, codes) for codes in full] + random_lists(1, 320)
+
+
+# ---- lists to build for each of the three primes
+
+PRIMES = [65537, 1000003, 2147483647]
+
+
+def any_step(r, n, p):
+    """The step of a progression of n codes, mostly one that n or a divisor of it divides."""
+    divisor = r.choice([d for d in range(1, n + 1) if n % d == 0])
+    step = r.choice([n, n, n, divisor, r.choice([2, 3, 4, 9]) * n, n * n, r.randint(1, 4 * n), r.randint(1, p // n)])
+    return min(step, (p - 1) // n)
+
+
+def any_first(r, span, p):
+    """The first code of a progression of this span: small, anywhere, or about j p / i."""
+    i = r.randint(1, 12)
+    about = r.randint(0, i) * p // i + r.randint(-span - 3, 3)
+    return max(1, min(r.choice([r.randint(1, 20), r.randrange(p), about]), p - 1 - span))
+
+
+def progression(r, n, p):
+    step = any_step(r, n, p)
+    first = r.choice([step, any_first(r, step * (n - 1), p), any_first(r, step * (n - 1), p)])
+    return [first + step * i for i in range(n)]
+
+
+def grid(r, n, p):
+    """A progression of two dimensions; the second step is any where the codes are few."""
+    step = any_step(r, n, p)
+    rows, second = r.randint(2, max(2, n // 2)), r.randrange(1, p) if n <= 20 else any_step(r, n, p)
+    first = r.randrange(1, p)
+    return [(first + i % rows * step + i // rows * second) % p for i in range(n)]
+
+
+def triples(r, n, p):
+    return [(x + n * i) % p for x in r.sample(range(1, p), -(-n // 3)) for i in range(3)][:n]
+
+
+def powers(r, n, p):
+    base = r.choice([2, 3, r.randrange(2, p)])
+    return [pow(base, i, p) for i in range(n)]
+
+
+def with_others(r, n, p):
+    """A progression some of whose codes are replaced by others."""
+    others = r.randint(1, -(-n // 4))
+    return progression(r, n, p)[others:] + r.sample(range(1, p), others)
+
+
+def alike_in_blocks(r, n, p):
+    """Blocks of two codes or three for k = 1 that stay in one cell for many q: they differ by multiples of n and of the block's cells."""
+    m = r.choice([2, 2, 3])
+    step = n * m * m * r.randint(1, 3)
+    first = r.choice([1, r.randint(1, 50), any_first(r, n + step * m, p)])
+    shared = [first + j + step * i for j in range(n // (2 * m - 2)) for i in range(m)]
+    return (shared + [first + j for j in range(n)])[:n]
+
+
+FAMILIES = [progression, progression, progression, grid, triples, powers, with_others, alike_in_blocks, alike_in_blocks]
+
+
+def structured_codes(r, n, p):
+    """About n codes of one of the families, or their negatives."""
+    codes = sorted({a for a in r.choice(FAMILIES)(r, max(n, 1), p) if 0 < a < p})
+    return r.choice([codes, codes, [p - a for a in codes]])
+
+
+def prime_lists(r, p):
+    """Random lists for a prime, structured ones among them, without end."""
+    while True:
+        n = r.choice([r.randint(0, 8), r.randint(0, 12), r.randint(0, 48), r.randint(33, 90)])
+        yield with_schedules(r, r.choice([random_codes, structured_codes, structured_codes])(r, n, p))
+
+
+def built_for(p, lists):
+    """The lists with their tables."""
+    return (BuiltFor(p, pairs, build(pairs, p)) for pairs in lists)
+
+
+def random_prime_lists(seed, count):
+    r = random.Random(seed)
+    cases = zip(*(built_for(p, prime_lists(r, p)) for p in PRIMES))
+    return list(itertools.islice(itertools.chain.from_iterable(cases), count))
+
+
+def stored_prime_lists(p):
+    r = random.Random(p)
+    anywhere = [r.randrange(1, p - 4) for _ in range(6)]
+    codes = [[1], [p - 1], [1, p - 1], [1, 5], [5, 9], [p - 1, p - 5], [p - 2, p - 6], [1, 4, 7], [p - 1, p - 4, p - 7]]
+    codes += [[x, x + 4] for x in anywhere] + [[2 * p // 3 + 6 * i for i in range(n)] for n in (3, 6, 12)]
+    codes += [[1295268587 % p + 6 * i for i in range(n)] for n in (3, 6, 12, 18)]
+    codes += [r.sample(range(1, p), n) for n in (33, 64, 65, 127, 128, 129, 300, 1000)]
+    step = min(MOST_PAIRS, p // MOST_PAIRS)
+    codes += [r.sample(range(1, p), MOST_PAIRS), [step * (i + 1) for i in range(MOST_PAIRS)], [p - step * (i + 1) for i in range(MOST_PAIRS)]]
+    lists = paper_lists() + [with_schedules(r, a) for a in codes]
+    return itertools.chain(built_for(p, lists), itertools.islice(built_for(p, prime_lists(r, p)), 300))
 
 
 # ---- texts to read, lists to write
@@ -1194,6 +1459,7 @@ def counted(cases):
 def make():
     programs = {
         "compare": [Built(pairs) for pairs in stored_lists()],
+        "compare_primes": [case for p in PRIMES for case in stored_prime_lists(p)],
         "compare_texts": stored_texts(),
         "compare_loads": stored_loads(),
         "compare_lookups": stored_lookups(),
@@ -1258,8 +1524,24 @@ def fresh_files(seed, count, program):
     return all(answer(data) == file_listing(data) for data in files), what
 
 
+def same_least(seed, count):
+    """Whether the searches find what trying all multipliers does."""
+    r = random.Random(seed)
+    multipliers = []
+    for _ in range(count):
+        p = r.choice([101, 257, 1009, 1009, 10007, 65537])
+        codes = [a for a, _ in next(prime_lists(r, p))]
+        m = len(codes)
+        for w, most in ((m, m - 1), (m * m, 0)):
+            multipliers.append(tried(p, codes, w, most, range(1, p)))
+            if multipliers[-1] != least(p, codes, w, most, r.choice([1, 8, 64]), r.choice([1, 8, 64])):
+                return False, f"p = {p}, w = {w}, codes {codes}"
+    return True, f"{len(multipliers)} multipliers, {sum(k >= 64 for k in multipliers)} of them above 63, the largest {max(multipliers)}"
+
+
 FRESH = {
     "fresh": lambda seed, count, program: fresh([Built(pairs) for pairs in random_lists(seed, count)], program),
+    "fresh-primes": lambda seed, count, program: fresh(random_prime_lists(seed, count), program),
     "fresh-texts": lambda seed, count, program: fresh(random_texts(seed, count), program),
     "fresh-loads": lambda seed, count, program: fresh(random_loads(seed, count), program),
     "fresh-lookups": lambda seed, count, program: fresh(random_lookups(seed, count, MOST_WORDS, MOST_HOLDS), program),
@@ -1272,8 +1554,8 @@ def main(words):
     if words == ["make"]:
         make()
         return 0
-    if len(words) == 4 and words[0] in FRESH:
-        same, what = FRESH[words[0]](int(words[1]), int(words[2]), words[3])
+    if len(words) == 4 and words[0] in FRESH or len(words) == 3 and words[0] == "least":
+        same, what = FRESH.get(words[0], same_least)(int(words[1]), int(words[2]), *words[3:])
         print(f"{what}: {'the same' if same else 'DIFFERENT'}")
         return 0 if same else 1
     print(__doc__)

@@ -11,10 +11,11 @@ build-and-print-spec =
     (tie.spec
     (λ c. search needs)
     (λ c κs. search needs)
-    (λ c. search needs)
+    (λ c κs. search needs)
     (λ c. search needs)
     (λ c. search needs)
     (λ c. search needs)
     (λ c. sym (length-take-le _ _ (search needs)))
+    (λ c. search needs)
     (λ c κs. search needs)
     (λ c. search needs))

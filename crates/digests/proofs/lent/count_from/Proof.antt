@@ -1,23 +1,20 @@
 -- `digests::lent::count_from` meets its contract. The invariant: the first i words are counted from the first, and the later ones are as they were; the
 -- measure is how many these are.
 use Prim.Native.Nat.{ℕ, _-_, _≤_}
-use mathlib.Core.List.{List, append-nil}
-use mathlib.Core.Path.{_≡_, _∙_}
+use mathlib.Core.List.{List}
+use mathlib.Core.Path.{_≡_}
 use native.Mathlib.Omega.{arith}
 use lib.ListN.{length}
-use lib.Seq.{drop-length}
-use Rattle.table.specs.TwoLevel.{tabulate}
 use Rattle.table.proofs.Tabulate.{TabulatedTo, tabulated-none, tabulated-kept, tabulated-more}
 use Rattle.digests.specs.Lent.{countedAt, countedFrom}
+use Rattle.digests.proofs.Filling.{tabulated-whole}
 use Rattle.digests.proofs.lent.count_from.Statement.{statement}
 use Rattle.digests.proofs.lent.count_from.Tie as tie
 
 counted-all :
     (first : ℕ) {i : ℕ} {old new : List ℕ} → TabulatedTo (countedAt first) i old new → length old ≤ i → new ≡ countedFrom first (length old)
 unfolding countedFrom
-counted-all first {i} {old} {new} l h =
-    let e : i ≡ length old = omega (arith, l .room) in
-    l .memory ∙ rw (e, drop-length old) (append-nil (tabulate (countedAt first) (length old)))
+counted-all first = tabulated-whole (countedAt first)
 
 abbrev Inv-loop : tie.InvT-loop
 Inv-loop first words₀ i₀ words i = TabulatedTo (countedAt first) i words₀ words

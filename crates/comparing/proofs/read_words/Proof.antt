@@ -1,13 +1,13 @@
--- `compare::read_list` is safe: the part that it lends is as long as it says.
+-- `comparing::read_words` meets its contract; the part that it lends is as long as it says.
 use borrow.Author.Needs.{needs}
 use mathlib.Core.Path.{sym}
 use native.Mathlib.Omega.{arith}
 use lib.Seq.{length-take-le}
-use Rattle.compare.proofs.read_list.Statement.{statement}
-use Rattle.compare.proofs.read_list.Tie as tie
+use Rattle.comparing.proofs.read_words.Statement.{statement}
+use Rattle.comparing.proofs.read_words.Tie as tie
 
-pub read-list-spec : {M : Type 1} → statement M
-read-list-spec =
+pub read-words-spec : {M : Type 1} → statement M
+read-words-spec =
     tie.close
     (tie.spec
     (λ c. search needs)

@@ -1,18 +1,18 @@
--- `compare::print_words` is safe and ends. The invariant: i is an index of a word, or the number of words.
+-- `comparing::print_fields` is safe and ends. The invariant: i is an index of a number, or how many there are.
 use Prim.Native.Nat.{_≤_, _-_}
 use borrow.Author.Needs.{needs}
 use lib.ListN.{length}
-use Rattle.compare.proofs.print_words.Statement.{statement}
-use Rattle.compare.proofs.print_words.Tie as tie
+use Rattle.comparing.proofs.print_fields.Statement.{statement}
+use Rattle.comparing.proofs.print_fields.Tie as tie
 
 abbrev Inv-loop : tie.InvT-loop
-Inv-loop words i₀ i = i ≤ length words
+Inv-loop begun numbers i₀ i = i ≤ length numbers
 
 abbrev μ-loop : tie.MeasureT-loop
-μ-loop words i₀ i = length words - i
+μ-loop begun numbers i₀ i = length numbers - i
 
-pub print-words-spec : {M : Type 1} → statement M
-print-words-spec =
+pub print-fields-spec : {M : Type 1} → statement M
+print-fields-spec =
     tie.close
     (tie.spec
     Inv-loop

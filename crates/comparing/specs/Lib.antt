@@ -1,0 +1,2 @@
+-- A list in both orders.
+pub mod Orders
