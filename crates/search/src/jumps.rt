@@ -252,8 +252,8 @@ fn measure(p: u32, step: u32, codes: &[u32]) -> Pace
     }
 }
 
-// Of the first steps, as many as that or STEPS of them, one that moves residues least. Any step would be right.
-fn best_step(p: u32, most: u32, codes: &[u32]) -> Pace
+// Of the first steps, as many as that or STEPS of them, one that moves residues least, or the first that is calm enough. Any step would be right.
+fn best_step(p: u32, most: u32, enough: u32, codes: &[u32]) -> Pace
     requires { ⌜ Codes p (now codes) × ((1 < p) × (length (now codes) ≤ few)) ⌝ }
     ensures { λ r. ⌜ (0 < r .step) × ((r .step < p) × (r .step ≤ 4096)) ⌝ }
 {
@@ -261,6 +261,9 @@ fn best_step(p: u32, most: u32, codes: &[u32]) -> Pace
     let mut best = measure(p, 1, codes);
     let mut step: u32 = 1;
     while step < last {
+        if best.score <= (enough as u64) {
+            return best;
+        }
         step += 1;
         best = calmer(best, measure(p, step, codes));
     }
@@ -285,7 +288,9 @@ fn pass_over(run: Run, codes: &[u32], keys: &mut [u32]) -> u32
 {
     let mut k = run.first;
     while k < run.prime {
-        let best = best_step(run.prime, k / 16, codes);
+        // a stretch of k multipliers has some k × moves / p jumps: fewer than a thousand are not worth a better step
+        let enough = run.prime / larger(64, k / 1024);
+        let best = best_step(run.prime, k / 16, enough, codes);
         if is_restless(best, codes.len() as u32, run.most) {
             return k;
         }

@@ -11,10 +11,10 @@ use Rattle.search.proofs.jumps.best_step.Statement.{statement}
 use Rattle.search.proofs.jumps.best_step.Tie as tie
 
 abbrev Inv-loop : tie.InvT-loop
-Inv-loop p most codes last best₀ step₀ best step = ((step < p) × (step ≤ 4096)) × ((1 ≤ best .step) × (best .step ≤ step))
+Inv-loop p most enough codes last best₀ step₀ best step = ((step < p) × (step ≤ 4096)) × ((1 ≤ best .step) × (best .step ≤ step))
 
 abbrev μ-loop : tie.MeasureT-loop
-μ-loop p most codes last best₀ step₀ best step = last - step
+μ-loop p most enough codes last best₀ step₀ best step = last - step
 
 -- one of two
 either :
@@ -34,25 +34,28 @@ loop-holds c =
 
 loop-again : tie.Need-loop-again Inv-loop μ-loop
 loop-again c =
-    let at = c .before .before .before in
+    let at = c .before .before .before .before .before in
     let cut = at .before .before in
     let start = cut .before .before .before in
     let other = c .before .measure2 in
     let last = last-upto (start .args .p - 1) (start .args .most) (cut .before .smaller .ensures) (cut .smaller2 .ensures) in (
-      (omega (arith, last .0, start .pre .1 .0), omega (arith, last .1)),
+      (omega (arith, last .0, start .pre .1 .0, c .before .before .before .before .loop-test .taken), omega (arith, last .1, c .before .before .before .before .loop-test .taken)),
       either (ltb (other .result .score) (at .loop .best .score)) (at .loop .best) (other .result) (c .calmer .ensures)
           (at .loop .inv .1 .0, omega (arith, at .loop .inv .1 .1)) (omega (arith, other .ensures), omega (arith, other .ensures)),
     )
 
 returns : tie.Need-returns Inv-loop μ-loop
-returns c = let h = c .before .loop .inv in (h .1 .0, (omega (arith, h .1 .1, h .0 .0), omega (arith, h .1 .1, h .0 .1)))
+returns c = let h = c .before .before .before .loop .inv in (h .1 .0, (omega (arith, h .1 .1, h .0 .0), omega (arith, h .1 .1, h .0 .1)))
+
+returns-2 : tie.Need-returns-2 Inv-loop μ-loop
+returns-2 c = let h = c .before .loop .inv in (h .1 .0, (omega (arith, h .1 .1, h .0 .0), omega (arith, h .1 .1, h .0 .1)))
 
 measure-requires : tie.Need-measure-requires Inv-loop μ-loop
 measure-requires c κs = c .before .before .before .pre
 
 measure-requires-2 : tie.Need-measure-requires-2 Inv-loop μ-loop
 measure-requires-2 c κs =
-    let at = c .before in
+    let at = c .before .before .before in
     let cut = at .before .before in
     let start = cut .before .before .before in
     let last = last-upto (start .args .p - 1) (start .args .most) (cut .before .smaller .ensures) (cut .smaller2 .ensures) in
@@ -69,9 +72,10 @@ best-step-spec =
     (λ c κs. omega arith)
     measure-requires
     loop-holds
-    (λ c. omega (arith, c .before .loop .inv .0 .1))
+    returns
+    (λ c. omega (arith, c .before .before .before .loop .inv .0 .1))
     measure-requires-2
     (λ c κs. omega arith)
     (λ c. omega arith)
     loop-again
-    returns)
+    returns-2)
