@@ -84,7 +84,8 @@ module _ (run : Run) (pos : 0 < run .prime) (some : 0 < run .places) (small : ru
       ]
 
 -- more equal pairs of keys than may be together: the first multiplier of the run fails, and as many more as it reaches
-pub keys-fail : {run : Run} {codes : List ℕ} → Runs run codes → run .most < equalPairs (keysOf run codes) → Fail run (run .step) codes (run .reach + 1)
+pub keys-fail :
+    {run : Run} {codes : List ℕ} → Runs run codes → run .most < equalPairs (keysOf run codes) → Fail run (run .step) codes (run .reach + 1)
 unfolding keysOf
 keys-fail {run} {codes} runs over = record { within = le-refl (run .reach + 1); over = go }
   where
@@ -101,7 +102,7 @@ keys-fail {run} {codes} runs over = record { within = le-refl (run .reach + 1); 
           over,
           pairs-together (run .prime) (run .first + j * run .step) (run .places) (keysOf run codes) codes sized
               (λ i h less short same.
-              stay-together run (omega (arith, runs .last-below)) (runs .some-places) (runs .few-places) i h (getD codes i 0) (getD codes h 0)
+              stay-together run (omega (arith, runs .step-below)) (runs .some-places) (runs .few-places) i h (getD codes i 0) (getD codes h 0)
               (λ e. absurd (omega arith))
               (sym (tabulate-at key (length codes) i (omega (arith, sized))) ∙ same ∙ tabulate-at key (length codes) h (omega (arith, sized)))
               j (omega arith)),
@@ -155,10 +156,6 @@ pub keyed-all : {run : Run} {codes keys : List ℕ} {i : ℕ} → Keyed run code
 unfolding keysOf
 keyed-all {run} {codes} {keys} {i} h end =
     tabulate-is (λ t. keyOf run t (getD codes t 0)) keys (λ t l. h .keyed t (omega (arith, h .sized))) ∙ ap (tabulate _) (h .sized)
-
--- the multipliers of a run are below the prime
-pub runs-first : {run : Run} {codes : List ℕ} → Runs run codes → run .first < run .prime
-runs-first {run} {codes} runs = omega (arith, runs .last-below)
 
 pub keys-sized : (run : Run) (codes : List ℕ) → length (keysOf run codes) ≡ length codes
 unfolding keysOf

@@ -10,35 +10,37 @@ use mathlib.Core.Path.{_≡_, sym, ap, _∙_}
 use borrow.Author.Tests.{le-leb, lt-leb}
 use lib.Dec.{leb}
 use Rattle.hash.specs.Hash.{together}
-use Rattle.search.specs.code.Jumps.{Runs, Stretches, Fail, Passed}
+use Rattle.search.specs.code.Jumps.{Runs, Ends, runFrom, Fail, Passed}
 use Rattle.search.specs.declared.jumps.Run.{Run}
 
--- ---- a run
-
--- it may be shorter
-pub runs-shorter :
-    {run : Run} {codes : List ℕ} (reach : ℕ) → Runs run codes → reach ≤ run .reach
-    → Runs (record { prime = run .prime; places = run .places; most = run .most; step = run .step; first = run .first; reach = reach }) codes
-runs-shorter {run} {codes} reach runs l =
+-- another run of the same codes
+pub runs-from :
+    {run : Run} {codes : List ℕ} → Runs run codes → (g k reach : ℕ) → 0 < g → g < run .prime → Runs (runFrom run g k reach) codes
+runs-from runs g k reach forward step-below =
     record {
       valid = runs .valid;
       short = runs .short;
       bounded = runs .bounded;
       some-places = runs .some-places;
       few-places = runs .few-places;
-      forward = runs .forward;
-      step-below = runs .step-below;
-      last-below = omega (arith, runs .last-below, mul-le-mul-right (run .step) l);
+      forward = forward;
+      step-below = step-below;
     }
+
+-- ---- a run
 
 -- none of it is known to fail
 pub none-fail : {run : Run} {g : ℕ} {codes : List ℕ} → Fail run g codes 0
 none-fail = record { within = omega arith; over = λ j l. absurd (omega arith) }
 
-module _ {run : Run} {codes : List ℕ} (runs : Runs run codes) where
+module _ {run : Run} {codes : List ℕ} (runs : Runs run codes) (ends : Ends run (run .step)) where
+  -- the same by the same step
+  pub runs-on : (k reach : ℕ) → Runs (runFrom run (run .step) k reach) codes
+  runs-on k reach = runs-from runs (run .step) k reach (runs .forward) (runs .step-below)
+
   -- a run has no more multipliers than there are below the prime
   pub runs-reach : run .reach + 1 ≤ run .prime
-  runs-reach = omega (arith, runs .last-below, reach-le (run .step) (runs .forward))
+  runs-reach = omega (arith, ends, reach-le (run .step) (runs .forward))
     where
       reach-le : (g : ℕ) → 0 < g → run .reach ≤ run .reach * g
       reach-le g pos = omega (arith, mul-le-mul-left (run .reach) pos)
@@ -46,33 +48,15 @@ module _ {run : Run} {codes : List ℕ} (runs : Runs run codes) where
   -- where d of them fail and the rest begins
   module _ {d : ℕ} (l : d ≤ run .reach) where
     pub rest-first : run .first + d * run .step < run .prime
-    rest-first = omega (arith, runs .last-below, mul-le-mul-right (run .step) l)
+    rest-first = omega (arith, ends, mul-le-mul-right (run .step) l)
 
-    pub runs-rest :
-        (reach : ℕ) → reach ≤ run .reach - d
-        → Runs
-        (record { prime = run .prime; places = run .places; most = run .most; step = run .step; first = run .first + d * run .step; reach = reach })
-        codes
-    runs-rest reach small =
-        record {
-          valid = runs .valid;
-          short = runs .short;
-          bounded = runs .bounded;
-          some-places = runs .some-places;
-          few-places = runs .few-places;
-          forward = runs .forward;
-          step-below = runs .step-below;
-          last-below =
-              let all : d + reach ≤ run .reach = omega arith in
-              omega (arith, runs .last-below, mul-le-mul-right (run .step) all);
-        }
+    pub rest-ends : (reach : ℕ) → reach ≤ run .reach - d → Ends (runFrom run (run .step) (run .first + d * run .step) reach) (run .step)
+    rest-ends reach small = let all : d + reach ≤ run .reach = omega arith in omega (arith, ends, mul-le-mul-right (run .step) all)
 
     -- n of the rest fail: so do d and n
     pub fail-on :
         {n reach : ℕ} → reach ≤ run .reach - d → Fail run (run .step) codes d
-        → Fail
-        (record { prime = run .prime; places = run .places; most = run .most; step = run .step; first = run .first + d * run .step; reach = reach })
-        (run .step) codes n
+        → Fail (runFrom run (run .step) (run .first + d * run .step) reach) (run .step) codes n
         → Fail run (run .step) codes (d + n)
     fail-on {n} {reach} small before rest = record { within = omega (arith, rest .within); over = over }
       where
@@ -113,111 +97,71 @@ swept-all {run} {codes} {i} {found} pos end h =
     small j l (inr few) = omega (arith, div-add-mod' j (run .step))
 
 -- the multipliers of remainder i, up to what was found
-module _ {run : Run} {codes : List ℕ} {i found : ℕ} (s : Stretches run codes) (h : Swept run codes i found) (l : i < found) where
+module _ {run : Run} {codes : List ℕ} {i found : ℕ} (pos : 0 < run .step) (h : Swept run codes i found) (l : i < found) where
   last : ℕ
   last = (found - 1 - i) / run .step
 
-  last-le : last * run .step ≤ found - 1 - i
-  unfolding last
-  last-le = omega (arith, div-add-mod' (found - 1 - i) (run .step))
-
-  pub runs-remainder :
-      Runs
-      (record { prime = run .prime; places = run .places; most = run .most; step = run .step; first = run .first + i; reach = (found - 1 - i) / run .step })
-      codes
-  unfolding last
-  runs-remainder =
-      record {
-        valid = s .valid;
-        short = s .short;
-        bounded = s .bounded;
-        some-places = s .some-places;
-        few-places = s .few-places;
-        forward = s .forward;
-        step-below = s .step-below;
-        last-below = omega (arith, last-le, h .within, s .last-below);
-      }
-
   -- the last of them comes before what was found
   pub remainder-within : i + (found - 1 - i) / run .step * run .step < found
-  unfolding last
-  remainder-within = omega (arith, last-le)
+  remainder-within = omega (arith, div-add-mod' (found - 1 - i) (run .step))
 
-  module _
-      {n : ℕ}
-      (failed :
-      Fail
-      (record { prime = run .prime; places = run .places; most = run .most; step = run .step; first = run .first + i; reach = (found - 1 - i) / run .step })
-      (run .step) codes n)
-    where
-      -- the one with remainder i fails, where it comes before the n-th
-      own : (x : ℕ) → x % run .step ≡ i → x / run .step < n → run .most < together (run .prime) (run .first + x) (run .places) codes
-      own x is less =
-          let e : run .first + i + x / run .step * run .step ≡ run .first + x = omega (arith, div-add-mod' x (run .step)) in
-          rw (← e) (failed .over (x / run .step) less)
+  pub remainder-ends : Ends run 1 → Ends (runFrom run (run .step) (run .first + i) ((found - 1 - i) / run .step)) (run .step)
+  remainder-ends ends = omega (arith, remainder-within, h .within, ends)
 
-      -- one of them may pass: it is the next that is found
-      pub swept-found : i < run .step → n ≤ (found - 1 - i) / run .step → Swept run codes (i + 1) (i + n * run .step)
-      unfolding last
-      swept-found less few =
-          let up : n * run .step ≤ found - 1 - i = omega (arith, last-le, mul-le-mul-right (run .step) few) in
-          record {
-            left = omega arith;
-            within = omega (arith, h .within);
-            over = λ x below m.
-                elim (ℕ-discrete (x % run .step) i) [
-                  | yes e ↦
-                      own x e (lt-of-mul-lt-mul-right (run .step) (omega (arith, div-add-mod' x (run .step))))
-                  | no ne ↦ h .over x (omega arith) (omega arith)
-                ];
-          }
+  module _ {n : ℕ} (failed : Fail (runFrom run (run .step) (run .first + i) ((found - 1 - i) / run .step)) (run .step) codes n) where
+    -- the one with remainder i fails, where it comes before the n-th
+    own : (x : ℕ) → x % run .step ≡ i → x / run .step < n → run .most < together (run .prime) (run .first + x) (run .places) codes
+    own x is less =
+        let e : run .first + i + x / run .step * run .step ≡ run .first + x = omega (arith, div-add-mod' x (run .step)) in
+        rw (← e) (failed .over (x / run .step) less)
 
-      -- all of them fail
-      pub swept-more : i < run .step → (found - 1 - i) / run .step < n → Swept run codes (i + 1) found
-      unfolding last
-      swept-more less all =
-          record {
-            left = omega arith;
-            within = h .within;
-            over = λ x below m.
-                elim (ℕ-discrete (x % run .step) i) [
-                  | yes e ↦ own x e (before x below e)
-                  | no ne ↦ h .over x below (omega arith)
-                ];
-          }
-        where
-          before : (x : ℕ) → x < found → x % run .step ≡ i → x / run .step < n
-          before x l e =
-              let up : (found - 1 - i) < (last + 1) * run .step =
-              omega (arith, div-add-mod' (found - 1 - i) (run .step), mod-lt (found - 1 - i) (s .forward)) in
-              let least : x / run .step < last + 1 =
-              lt-of-mul-lt-mul-right (run .step) (omega (arith, div-add-mod' x (run .step))) in
-              omega arith
+    -- one of them may pass: it is the next that is found
+    pub swept-found : i < run .step → n ≤ (found - 1 - i) / run .step → Swept run codes (i + 1) (i + n * run .step)
+    unfolding last
+    swept-found less few =
+        let up : i + n * run .step < found = omega (arith, remainder-within, mul-le-mul-right (run .step) few) in
+        record {
+          left = omega arith;
+          within = omega (arith, h .within);
+          over = λ x below m.
+              elim (ℕ-discrete (x % run .step) i) [
+                | yes e ↦
+                    own x e (lt-of-mul-lt-mul-right (run .step) (omega (arith, div-add-mod' x (run .step))))
+                | no ne ↦ h .over x (omega arith) (omega arith)
+              ];
+        }
 
-      -- so in either case
-      pub swept-next : {r : ℕ} → i < run .step → r ≡ cond (leb n ((found - 1 - i) / run .step)) (i + n * run .step) found → Swept run codes (i + 1) r
-      swept-next less is =
-          elim (decLe n ((found - 1 - i) / run .step)) [
-            | yes few ↦ rw (is, le-leb n ((found - 1 - i) / run .step) few) (swept-found less few)
-            | no all ↦ rw (is, lt-leb n ((found - 1 - i) / run .step) (omega arith)) (swept-more less (omega arith))
-          ]
+    -- all of them fail
+    pub swept-more : i < run .step → (found - 1 - i) / run .step < n → Swept run codes (i + 1) found
+    unfolding last
+    swept-more less all =
+        record {
+          left = omega arith;
+          within = h .within;
+          over = λ x below m.
+              elim (ℕ-discrete (x % run .step) i) [
+                | yes e ↦ own x e (before x below e)
+                | no ne ↦ h .over x below (omega arith)
+              ];
+        }
+      where
+        before : (x : ℕ) → x < found → x % run .step ≡ i → x / run .step < n
+        before x l e =
+            let up : (found - 1 - i) < (last + 1) * run .step =
+            omega (arith, div-add-mod' (found - 1 - i) (run .step), mod-lt (found - 1 - i) pos) in
+            let least : x / run .step < last + 1 =
+            lt-of-mul-lt-mul-right (run .step) (omega (arith, div-add-mod' x (run .step))) in
+            omega arith
+
+    -- so in either case
+    pub swept-next : {r : ℕ} → i < run .step → r ≡ cond (leb n ((found - 1 - i) / run .step)) (i + n * run .step) found → Swept run codes (i + 1) r
+    swept-next less is =
+        elim (decLe n ((found - 1 - i) / run .step)) [
+          | yes few ↦ rw (is, le-leb n ((found - 1 - i) / run .step) few) (swept-found less few)
+          | no all ↦ rw (is, lt-leb n ((found - 1 - i) / run .step) (omega arith)) (swept-more less (omega arith))
+        ]
 
 -- ---- stretch after stretch
-
-pub stretches-at :
-    {run : Run} {codes : List ℕ} → Stretches run codes → (g k reach : ℕ) → 0 < g → g < run .prime → k + reach < run .prime
-    → Stretches (record { prime = run .prime; places = run .places; most = run .most; step = g; first = k; reach = reach }) codes
-stretches-at s g k reach forward step-below below =
-    record {
-      valid = s .valid;
-      short = s .short;
-      bounded = s .bounded;
-      some-places = s .some-places;
-      few-places = s .few-places;
-      forward = forward;
-      step-below = step-below;
-      last-below = below;
-    }
 
 -- none yet
 pub passed-none : {p w most : ℕ} {codes : List ℕ} {k : ℕ} → Passed p w most codes k k
@@ -226,7 +170,7 @@ passed-none = record { from = omega arith; over = λ j l m. absurd (omega arith)
 module _ (run : Run) {codes : List ℕ} where
   pub passed-more :
       {k n g reach : ℕ} → Passed (run .prime) (run .places) (run .most) codes (run .first) k
-      → Fail (record { prime = run .prime; places = run .places; most = run .most; step = g; first = k; reach = reach }) 1 codes n
+      → Fail (runFrom run g k reach) 1 codes n
       → Passed (run .prime) (run .places) (run .most) codes (run .first) (k + n)
   passed-more {k} {n} {g} {reach} before failed =
       record {

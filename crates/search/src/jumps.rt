@@ -8,7 +8,7 @@ ghost use lib.Dec.{leb, ltb};
 ghost use lib.ListN.{length, drop};
 ghost use Rattle.hash.specs.Hash.{Codes};
 ghost use Rattle.table.specs.Limits.{few, room};
-ghost use Rattle.search.specs.code.Jumps.{equals, equalPairs, straight, turn, keyOf, keysOf, Runs, Stretches, Fail, Passed};
+ghost use Rattle.search.specs.code.Jumps.{equals, equalPairs, straight, turn, keyOf, keysOf, Runs, Ends, Fail, Passed};
 use table::limits::FEW;
 use table::numbers::larger;
 use table::numbers::one;
@@ -104,7 +104,8 @@ fn key(run: Run, i: u32, a: u32) -> u32
 
 // The keys of all codes.
 fn fill_keys(run: Run, codes: &[u32], keys: &mut [u32])
-    requires { ⌜ Runs run (now codes) × (length (now keys) ≡ length (now codes)) ⌝ }
+    requires { ⌜ Runs run (now codes) × Ends run (run .step) ⌝ }
+    requires { ⌜ length (now keys) ≡ length (now codes) ⌝ }
     ensures { λ _. ⌜ now (keys .exit) ≡ keysOf run (now (codes .entry)) ⌝ }
 {
     let mut i = 0;
@@ -116,7 +117,8 @@ fn fill_keys(run: Run, codes: &[u32], keys: &mut [u32])
 
 // How many of the first multipliers of a run are known to fail: none where the first may pass. As far as the run reaches, or half as far, or a quarter ..
 fn failing(run: Run, codes: &[u32], keys: &mut [u32]) -> u32
-    requires { ⌜ Runs run (now codes) × (length (now keys) ≡ length (now codes)) ⌝ }
+    requires { ⌜ Runs run (now codes) × Ends run (run .step) ⌝ }
+    requires { ⌜ length (now keys) ≡ length (now codes) ⌝ }
     ensures { λ r. ⌜ Fail run (run .step) (now (codes .entry)) r × (length (now (keys .exit)) ≡ length (now (codes .entry))) ⌝ }
 {
     let mut reach = run.reach;
@@ -151,7 +153,8 @@ pub(crate) fn smaller(a: u32, b: u32) -> u32
 
 // How many of the first multipliers of a run fail: all of them, or as many as come before one that may pass. Each jump that works doubles the next.
 fn walk(run: Run, codes: &[u32], keys: &mut [u32]) -> u32
-    requires { ⌜ Runs run (now codes) × (length (now keys) ≡ length (now codes)) ⌝ }
+    requires { ⌜ Runs run (now codes) × Ends run (run .step) ⌝ }
+    requires { ⌜ length (now keys) ≡ length (now codes) ⌝ }
     ensures { λ r. ⌜ Fail run (run .step) (now (codes .entry)) r × (length (now (keys .exit)) ≡ length (now (codes .entry))) ⌝ }
 {
     let mut done: u32 = 0;
@@ -189,7 +192,8 @@ fn nearer(run: Run, failed: u32, i: u32, found: u32) -> u32
 // The multipliers first to first + reach, one by one: how many of them fail before one that may pass. They are gone through by their remainders modulo the
 // step, each remainder up to what was found before.
 fn stretch(run: Run, codes: &[u32], keys: &mut [u32]) -> u32
-    requires { ⌜ Stretches run (now codes) × (length (now keys) ≡ length (now codes)) ⌝ }
+    requires { ⌜ Runs run (now codes) × Ends run 1 ⌝ }
+    requires { ⌜ length (now keys) ≡ length (now codes) ⌝ }
     ensures { λ r. ⌜ Fail run 1 (now (codes .entry)) r × (length (now (keys .exit)) ≡ length (now (codes .entry))) ⌝ }
 {
     let mut found = run.reach + 1;
@@ -282,7 +286,8 @@ fn is_restless(pace: Pace, n: u32, most: u32) -> bool {
 // The first multiplier from `first` on that may pass, or the prime; or one before it from which on no step serves. Each stretch is as long as all before it,
 // and has the step that serves best of those that can be looked at in a part of the time.
 fn pass_over(run: Run, codes: &[u32], keys: &mut [u32]) -> u32
-    requires { ⌜ Stretches run (now codes) × (length (now keys) ≡ length (now codes)) ⌝ }
+    requires { ⌜ Runs run (now codes) × Ends run 1 ⌝ }
+    requires { ⌜ length (now keys) ≡ length (now codes) ⌝ }
     ensures { λ r. ⌜ Passed (run .prime) (run .places) (run .most) (now (codes .entry)) (run .first) r ⌝ }
     ensures { λ _. ⌜ length (now (keys .exit)) ≡ length (now (codes .entry)) ⌝ }
 {

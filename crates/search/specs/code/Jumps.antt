@@ -46,7 +46,7 @@ keyOf run i a =
 unfoldable pub keysOf : Run → List ℕ → List ℕ
 keysOf run codes = tabulate (λ i. keyOf run i (getD codes i 0)) (length codes)
 
--- what a run of multipliers asks: they and the codes are below the prime, and the places are few enough for a key
+-- what every run by a step asks: the places are few enough for a key
 pub record Runs (run : Run) (codes : List ℕ) : Type 0 where
   pub valid : Codes (run .prime) codes
   pub short : length codes ≤ few
@@ -55,18 +55,14 @@ pub record Runs (run : Run) (codes : List ℕ) : Type 0 where
   pub few-places : run .places ≤ 32768
   pub forward : 0 < run .step
   pub step-below : run .step < run .prime
-  pub last-below : run .first + run .reach * run .step < run .prime
 
--- the multipliers of a stretch, one by one, are below the prime
-pub record Stretches (run : Run) (codes : List ℕ) : Type 0 where
-  pub valid : Codes (run .prime) codes
-  pub short : length codes ≤ few
-  pub bounded : run .most ≤ room
-  pub some-places : 0 < run .places
-  pub few-places : run .places ≤ 32768
-  pub forward : 0 < run .step
-  pub step-below : run .step < run .prime
-  pub last-below : run .first + run .reach < run .prime
+-- the last multiplier of a run by steps of g is below the prime
+abbrev pub Ends : Run → ℕ → Type 0
+Ends run g = run .first + run .reach * g < run .prime
+
+-- the run from another multiplier on, by another step, or of another reach
+abbrev pub runFrom : Run → ℕ → ℕ → ℕ → Run
+runFrom run g k reach = record { prime = run .prime; places = run .places; most = run .most; step = g; first = k; reach = reach }
 
 -- the first r multipliers k, k + g, .. put more than the most pairs together; they are among those of the run
 pub record Fail (run : Run) (g : ℕ) (codes : List ℕ) (r : ℕ) : Type 0 where

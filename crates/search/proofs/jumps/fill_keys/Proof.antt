@@ -3,7 +3,7 @@ use Prim.Native.Nat.{_-_}
 use mathlib.Core.Path.{sym, _∙_}
 use native.Mathlib.Omega.{arith}
 use lib.ListN.{length}
-use Rattle.search.proofs.Keys.{Keyed, keyed-start, keyed-more, keyed-all, runs-first}
+use Rattle.search.proofs.Keys.{Keyed, keyed-start, keyed-more, keyed-all}
 use Rattle.search.proofs.jumps.fill_keys.Statement.{statement}
 use Rattle.search.proofs.jumps.fill_keys.Tie as tie
 
@@ -20,12 +20,13 @@ returns : tie.Need-returns Inv-loop μ-loop
 returns c = keyed-all (c .before .loop .inv) (c .loop-test .left)
 
 cast-key : tie.Need-cast-key Inv-loop μ-loop
-cast-key c = let runs = c .before .before .before .before .pre .0 in omega (arith, runs .short)
+cast-key c = let runs = c .before .before .before .before .pre .0 .0 in omega (arith, runs .short)
 
 key-requires : tie.Need-key-requires Inv-loop μ-loop
 key-requires c κs =
-    let runs = c .before .before .before .before .before .pre .0 in (
-      (runs-first runs, (runs .step-below, runs .valid .below _ (omega arith))),
+    let start = c .before .before .before .before .before in
+    let runs = start .pre .0 .0 in (
+      (omega (arith, start .pre .0 .1), (runs .step-below, runs .valid .below _ (omega arith))),
       (runs .some-places, (runs .few-places, omega (arith, runs .short))),
     )
 

@@ -12,16 +12,18 @@ slice-aggregate-pass-over c = sym (length-take-le _ _ (c .before .before .pre .0
 pass-over-requires : tie.Need-pass-over-requires
 pass-over-requires c κs =
     let start = c .before .before in (
-      record {
-        valid = start .pre .0 .0;
-        short = start .pre .0 .1 .0;
-        bounded = start .pre .0 .1 .1;
-        some-places = start .pre .1 .0;
-        few-places = start .pre .1 .1 .0;
-        forward = omega arith;
-        step-below = start .pre .1 .1 .1 .0;
-        last-below = omega (arith, start .pre .1 .1 .1 .1);
-      },
+      (
+        record {
+          valid = start .pre .0 .0;
+          short = start .pre .0 .1 .0;
+          bounded = start .pre .0 .1 .1;
+          some-places = start .pre .1 .0;
+          few-places = start .pre .1 .1 .0;
+          forward = omega arith;
+          step-below = start .pre .1 .1 .1 .0;
+        },
+        omega (arith, start .pre .1 .1 .1 .1),
+      ),
       length-take-le _ _ (start .pre .0 .1 .0),
     )
 

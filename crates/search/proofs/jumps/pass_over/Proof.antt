@@ -5,7 +5,7 @@ use native.Mathlib.Nat.{le-max-left, min-le-right}
 use native.Mathlib.Omega.{arith}
 use lib.ListN.{length}
 use Rattle.search.specs.code.Jumps.{Passed}
-use Rattle.search.proofs.Passing.{stretches-at, passed-none, passed-more}
+use Rattle.search.proofs.Passing.{runs-from, passed-none, passed-more}
 use Rattle.search.proofs.jumps.pass_over.Statement.{statement}
 use Rattle.search.proofs.jumps.pass_over.Tie as tie
 
@@ -43,13 +43,13 @@ returns-3 : tie.Need-returns-3 Inv-loop μ-loop
 returns-3 c = let at = c .before .before in (at .loop .inv .0, at .loop .inv .1 .1)
 
 loop-holds : tie.Need-loop-holds Inv-loop μ-loop
-loop-holds c = let start = c .before .before in (passed-none, (omega (arith, start .pre .0 .last-below), start .pre .1))
+loop-holds c = let start = c .before .before in (passed-none, (omega (arith, start .pre .0 .1), start .pre .1))
 
 div-enough : tie.Need-div-enough Inv-loop μ-loop
 div-enough c = omega (arith, c .before .larger .ensures, le-max-left 64 (c .before .before .before .before .loop .k / 1024))
 
 best-step-requires : tie.Need-best-step-requires Inv-loop μ-loop
-best-step-requires c κs = let s = c .before .before .before .before .before .before .before .pre .0 in (s .valid, (omega (arith, s .step-below, s .forward), s .short))
+best-step-requires c κs = let s = c .before .before .before .before .before .before .before .pre .0 .0 in (s .valid, (omega (arith, s .step-below, s .forward), s .short))
 
 stretch-requires : tie.Need-stretch-requires Inv-loop μ-loop
 stretch-requires c κs =
@@ -58,9 +58,11 @@ stretch-requires c κs =
     let test = best .before .before .before in
     let at = test .before .before in
     let start = at .before .before .before in (
-      stretches-at (start .pre .0) (best .best-step .result .step) (at .loop .k) (cut .smaller .result) (best .best-step .ensures .0)
-          (best .best-step .ensures .1 .0)
-          (omega (arith, cut .smaller .ensures, min-le-right (at .loop .k) (start .args .run .prime - 1 - at .loop .k), test .if1 .taken)),
+      (
+        runs-from (start .pre .0 .0) (best .best-step .result .step) (at .loop .k) (cut .smaller .result) (best .best-step .ensures .0)
+            (best .best-step .ensures .1 .0),
+        omega (arith, cut .smaller .ensures, min-le-right (at .loop .k) (start .args .run .prime - 1 - at .loop .k), test .if1 .taken),
+      ),
       at .loop .inv .1 .1,
     )
 
@@ -86,7 +88,7 @@ pass-over-spec =
     (λ c κs. omega arith)
     div-enough
     best-step-requires
-    (λ c. omega (arith, c .before .before .before .before .before .before .before .before .pre .0 .short))
+    (λ c. omega (arith, c .before .before .before .before .before .before .before .before .pre .0 .0 .short))
     (λ c κs. omega arith)
     (λ c. c .before .before .before .before .before .before .before .loop .inv .1 .1 ∙ sym (c .before .before .before .before .before .before .before .before .before .before .pre .1))
     returns

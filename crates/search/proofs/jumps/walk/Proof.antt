@@ -5,7 +5,7 @@ use native.Mathlib.Nat.{min-le-left, min-le-right}
 use native.Mathlib.Omega.{arith}
 use lib.ListN.{length}
 use Rattle.search.specs.code.Jumps.{Fail}
-use Rattle.search.proofs.Passing.{none-fail, runs-reach, rest-first, runs-rest, fail-on}
+use Rattle.search.proofs.Passing.{none-fail, runs-on, runs-reach, rest-first, rest-ends, fail-on}
 use Rattle.search.proofs.jumps.walk.Statement.{statement}
 use Rattle.search.proofs.jumps.walk.Tie as tie
 
@@ -21,8 +21,12 @@ loop-again c =
     let cut = called .before .before in
     let test = cut .before .before .before .before in
     let at = test .before .before in
-    let start = at .before .before .before in
-    (fail-on (start .pre .0) (test .if1 .taken) (omega (arith, cut .smaller .ensures, min-le-right (at .loop .guess) (start .args .run .reach - at .loop .done))) (at .loop .inv .0) (called .failing .ensures .0), called .failing .ensures .1)
+    let start = at .before .before .before in (
+      fail-on (start .pre .0 .0) (start .pre .0 .1) (test .if1 .taken)
+          (omega (arith, cut .smaller .ensures, min-le-right (at .loop .guess) (start .args .run .reach - at .loop .done)))
+          (at .loop .inv .0) (called .failing .ensures .0),
+      called .failing .ensures .1,
+    )
 
 returns : tie.Need-returns Inv-loop μ-loop
 returns c = (c .before .before .before .before .before .before .before .before .before .before .before .loop .inv .0, c .before .before .before .failing .ensures .1)
@@ -34,13 +38,13 @@ mul-t9 : tie.Need-mul-t9 Inv-loop μ-loop
 mul-t9 c =
     let test = c .before in
     let start = test .before .before .before .before .before in
-    omega (arith, rest-first (start .pre .0) (test .if1 .taken))
+    omega (arith, rest-first (start .pre .0 .0) (start .pre .0 .1) (test .if1 .taken))
 
 add-t10 : tie.Need-add-t10 Inv-loop μ-loop
 add-t10 c =
     let test = c .before .before in
     let start = test .before .before .before .before .before in
-    omega (arith, rest-first (start .pre .0) (test .if1 .taken))
+    omega (arith, rest-first (start .pre .0 .0) (start .pre .0 .1) (test .if1 .taken))
 
 failing-requires : tie.Need-failing-requires Inv-loop μ-loop
 failing-requires c κs =
@@ -48,7 +52,14 @@ failing-requires c κs =
     let test = cut .before .before .before .before in
     let at = test .before .before in
     let start = at .before .before .before in
-    (runs-rest (start .pre .0) (test .if1 .taken) (cut .smaller .result) (omega (arith, cut .smaller .ensures, min-le-right (at .loop .guess) (start .args .run .reach - at .loop .done))), at .loop .inv .1)
+    let run = start .args .run in (
+      (
+        runs-on (start .pre .0 .0) (start .pre .0 .1) (run .first + at .loop .done * run .step) (cut .smaller .result),
+        rest-ends (start .pre .0 .0) (start .pre .0 .1) (test .if1 .taken) (cut .smaller .result)
+            (omega (arith, cut .smaller .ensures, min-le-right (at .loop .guess) (run .reach - at .loop .done))),
+      ),
+      at .loop .inv .1,
+    )
 
 same-length : tie.Need-same-length Inv-loop μ-loop
 same-length c = c .before .before .before .failing .ensures .1 ∙ sym (c .before .before .before .before .before .before .before .before .before .before .before .before .before .before .pre .1)
@@ -64,7 +75,7 @@ add-done c =
       called .failing .ensures .0 .within,
       cut .smaller .ensures,
       min-le-right (at .loop .guess) (start .args .run .reach - at .loop .done),
-      runs-reach (start .pre .0),
+      runs-reach (start .pre .0 .0) (start .pre .0 .1),
     )
 
 add-guess : tie.Need-add-guess Inv-loop μ-loop
