@@ -1,4 +1,6 @@
 // The check of a table from anywhere.
+#![tactic(auto)]
+
 mod blocks;
 pub mod check;
 pub mod numbered;

@@ -1,3 +1,5 @@
 // Building a table from a list.
+#![tactic(auto)]
+
 pub mod build;
 pub mod numbered;

@@ -1,6 +1,8 @@
 // Builds each list of its input twice, in the list's order and in the reverse, and prints a line for each table: all its words where the list is short,
 // otherwise n, c, k, the total and a digest of all words. tools/second_program.py makes the input and the lines that are expected. Input: n, n codes and
 // n schedules, four bytes each, least first.
+#![tactic(auto)]
+
 ghost use Rattle.std.specs.Prelude.{◌≡◌, length};
 
 use comparing::{print_table, read_both_orders, read_words};

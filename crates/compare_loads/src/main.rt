@@ -1,5 +1,7 @@
 // Generates the test loads of its input, and prints for each the answer and digests of all lent memory after the call; then a line for the table that is built of
 // the load, and where it is asked the table's listing. tools/second_program.py makes the input and the lines that are expected, and says what is in them.
+#![tactic(auto)]
+
 use digests::digest_words;
 use digests::lent::count_from;
 use prelude::numbers::wide;

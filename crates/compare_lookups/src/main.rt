@@ -1,5 +1,7 @@
 // Looks codes up in the tables of its input, whole ones and damaged ones, then a panel in each, and prints a line for each answer. tools/second_program.py
 // makes the input and the lines that are expected, and says what is in them.
+#![tactic(auto)]
+
 use prelude::answers::NumberedFound;
 use prelude::fill::fill;
 use prelude::numbers::wide;

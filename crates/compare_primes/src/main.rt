@@ -1,6 +1,8 @@
 // Builds each list of its input for the prime that stands before it, twice, in the list's order and in the reverse, and prints a line for each table: the
 // prime, then all words where the list is short, otherwise n, c, k, the total and a digest of all words. tools/second_program.py makes the input and the
 // lines that are expected. Input: the prime, n, n codes and n schedules, four bytes each, least first.
+#![tactic(auto)]
+
 ghost use Rattle.std.specs.Prelude.{◌≡◌, length};
 ghost use Rattle.hash.specs.Theorems.{Prime};
 

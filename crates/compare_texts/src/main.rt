@@ -1,5 +1,7 @@
 // Reads the texts and writes the lists of its input, and prints for each the answer and digests of all lent memory after the call; the pairs or the text too,
 // where they are short. tools/second_program.py makes the input and the lines that are expected, and says what is in them.
+#![tactic(auto)]
+
 ghost use Rattle.std.specs.Prelude.{◌+◌, ◌<◌, ◌≤◌, length};
 
 use digests::lent::count_from;

@@ -1,4 +1,6 @@
 // What the programs that build lists and compare share: words from the input, and the line of a table.
+#![tactic(auto)]
+
 ghost use Rattle.std.specs.Prelude.{◌≤◌, true, ◌≡◌, leb, length};
 ghost use Rattle.comparing.specs.Orders.{BothOrders};
 

@@ -1,5 +1,7 @@
 // Text, written into lent bytes: each function writes from `at` on and answers where its text ends, or writes before `end` and answers where it
 // begins, and keeps every other byte.
+#![tactic(auto)]
+
 ghost use Rattle.std.specs.Prelude.{◌+◌, ◌/◌, ◌%◌, ◌<◌, ◌≤◌, cond, ◌≡◌, [], ◌∷◌, leb, length};
 ghost use Rattle.decimal.specs.code.Added.{Added};
 ghost use Rattle.decimal.specs.Decimal.{decimal};

@@ -1,1 +1,2 @@
 // The theorems of the demands. No code.
+#![tactic(auto)]

@@ -1,4 +1,6 @@
 // What the programs that compare share: memory as they lend it, and digests of it: one number for all words, or all bytes, of a slice.
+#![tactic(auto)]
+
 ghost use Rattle.std.specs.Prelude.{◌≡◌};
 ghost use Rattle.digests.specs.Digest.{digest_of};
 

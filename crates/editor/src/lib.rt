@@ -1,4 +1,6 @@
 // Put in, take out.
+#![tactic(auto)]
+
 mod changes;
 pub mod edit;
 pub mod numbered;

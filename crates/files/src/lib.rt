@@ -1,4 +1,6 @@
 // The words of a file, and its bytes: four for each word, least byte first.
+#![tactic(auto)]
+
 ghost use Rattle.std.specs.Prelude.{◌+◌, ◌%◌, ◌≤◌, min, [], ◌∷◌, ◌++◌, ◌≡◌, length, take, drop};
 ghost use Rattle.prelude.specs.code.Within.{Within};
 ghost use Rattle.files.specs.Bytes.{bytes_of, WordsFilled, BytesFilled};

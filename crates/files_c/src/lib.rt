@@ -1,4 +1,6 @@
 // The words of bytes and the listing, as the benchmark calls them from C (bench/files.h).
+#![tactic(auto)]
+
 ghost use Rattle.files.specs.Bytes.{WordsFilled};
 ghost use Rattle.listing.specs.Listing.{FileListed};
 ghost use Rattle.prelude.specs.Limits.{most_pairs};

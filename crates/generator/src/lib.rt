@@ -1,4 +1,6 @@
 // A studio's own test load (document 02, Change 2): the same list on every bench. A refusal changes no place.
+#![tactic(auto)]
+
 ghost use Rattle.std.specs.Prelude.{◌+◌, ◌%◌, ◌≤◌, ◌≡◌};
 ghost use Rattle.prelude.specs.Limits.{most_pairs};
 ghost use Rattle.generator.specs.TestLoad.{LoadGenerated};

@@ -1,4 +1,6 @@
 // The C interface (include/glass.h): each function shows the answer of the proved one as a number and a value, of a lookup and a panel with a cell.
+#![tactic(auto)]
+
 ghost use Rattle.lookup.specs.Lookup.{lookup_of};
 ghost use Rattle.panel.specs.Panel.{panel_of};
 ghost use Rattle.audit.specs.Check.{check_of};

@@ -49,6 +49,9 @@ keep_swap true false x y l = Permᴰ.refl (x ∷ l)
 keep_swap false true x y l = Permᴰ.refl (y ∷ l)
 keep_swap false false x y l = Permᴰ.refl l
 
+exchanged : (x y l m r : ℕ) → x ≡ y → (x + l) + (m + r) ≡ (y + m) + (l + r)
+exchanged x y l m r e = omega arith
+
 module _ (p k w : ℕ) where
   pub perm_load : (t : ℕ) {s r : List ℕ} → Permᴰ s r → load p k w t s ≡ load p k w t r
   unfolding load
@@ -65,7 +68,7 @@ module _ (p k w : ℕ) where
   perm_together (Permᴰ.cons {b = b} {l₁ = s} e q) =
       ap₂ ◌+◌ (ap (λ (a : ℕ). load p k w (hash_of p k w a) s) e ∙ perm_load (hash_of p k w b) q) (perm_together q)
   perm_together (Permᴰ.swap {a = a} {b = b} {l = l} e f) =
-      rw (← e, ← f) (omega (arith, indicator_sym (hash_of p k w a) (hash_of p k w b)))
+      exchanged _ _ _ _ _ (indicator_sym (hash_of p k w b) (hash_of p k w a)) ∙ ap₂ (λ (x : ℕ) (y : ℕ). together p k w (x ∷ y ∷ l)) f e
   perm_together (Permᴰ.trans q u) = perm_together q ∙ perm_together u
 
   pub perm_members : (t : ℕ) {s r : List ℕ} → Permᴰ s r → Permᴰ (members p k w t s) (members p k w t r)

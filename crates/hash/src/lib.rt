@@ -1,4 +1,6 @@
 // The one hash function. Codes, multipliers and the prime are words of 32 bits; their products take 64.
+#![tactic(auto)]
+
 ghost use Rattle.std.specs.Prelude.{◌*◌, ◌<◌, ◌≤◌, ◌≡◌};
 ghost use Rattle.hash.specs.code.Contract.{Hashed, Remainder, Ready, Hashing, reciprocal_of};
 

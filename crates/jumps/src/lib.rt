@@ -1,3 +1,5 @@
 // Multipliers that fail for a common reason, and are passed over together.
+#![tactic(auto)]
+
 pub mod runs;
 mod starts;

@@ -1,5 +1,7 @@
 // The lines that texts are made of. Each function writes from `at` on and answers where its text ends, or writes before `end` and answers where it
 // begins, and keeps every other byte.
+#![tactic(auto)]
+
 ghost use Rattle.std.specs.Prelude.{ℕ, ◌+◌, ◌≤◌, ◌++◌, ◌≡◌, length};
 ghost use Rattle.decimal.specs.code.Added.{Added};
 ghost use Rattle.decimal.specs.Decimal.{decimal};

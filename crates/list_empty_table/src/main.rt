@@ -1,4 +1,6 @@
 // The table of the empty list, P1.
+#![tactic(auto)]
+
 fn main() {
     let mut bytes = [0u8; 65537];
     let mut text = [0u8; 65536];

@@ -1,4 +1,6 @@
 // The longest file: P5's table, and words beyond its total.
+#![tactic(auto)]
+
 fn main() {
     let mut bytes = [0u8; 65537];
     let mut text = [0u8; 65536];

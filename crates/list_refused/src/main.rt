@@ -1,4 +1,6 @@
 // P5's table file without its last word.
+#![tactic(auto)]
+
 fn main() {
     let mut bytes = [0u8; 65537];
     let mut text = [0u8; 65536];

@@ -1,4 +1,6 @@
 // The listing of P5's table file.
+#![tactic(auto)]
+
 fn main() {
     let mut bytes = [0u8; 65537];
     let mut text = [0u8; 65536];

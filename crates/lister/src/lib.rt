@@ -1,4 +1,6 @@
 // The program that lists, up to its output: each stored run is a program whose `main` calls this and writes the text.
+#![tactic(auto)]
+
 ghost use Rattle.std.specs.Prelude.{take};
 ghost use Rattle.io.specs.Counts.{IsPrefixLen};
 ghost use Rattle.prelude.specs.Limits.{most_pairs};

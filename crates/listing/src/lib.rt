@@ -1,4 +1,6 @@
 // The text of a table file (document 01, "The program that lists").
+#![tactic(auto)]
+
 ghost use Rattle.listing.specs.Listing.{FileListed};
 ghost use Rattle.prelude.specs.Limits.{most_pairs};
 

@@ -1,5 +1,7 @@
 // Looking a code up (document 01, "Look up"). Of the table it reads n, c, k, the start and the end of the code's block, its q, and
 // the code and schedule of one cell.
+#![tactic(auto)]
+
 ghost use Rattle.std.specs.Prelude.{◌<◌, ◌≤◌, ◌≡◌};
 ghost use Rattle.lookup.specs.Lookup.{in_cell, in_block, lookup_of};
 ghost use Rattle.table.specs.code.Sized.{Block, Cell};

@@ -1,4 +1,6 @@
 // A third line whose code has a leading zero.
+#![tactic(auto)]
+
 fn main() {
     let mut text = [0u8; 65537];
     let mut bytes = [0u8; 65536];

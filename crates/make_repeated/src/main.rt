@@ -1,4 +1,6 @@
 // A fourth line whose code is that of the second.
+#![tactic(auto)]
+
 fn main() {
     let mut text = [0u8; 65537];
     let mut bytes = [0u8; 65536];

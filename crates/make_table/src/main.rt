@@ -1,4 +1,6 @@
 // The table file of P5's pairs.
+#![tactic(auto)]
+
 fn main() {
     let mut text = [0u8; 65537];
     let mut bytes = [0u8; 65536];

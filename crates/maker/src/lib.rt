@@ -1,4 +1,6 @@
 // The program that makes a table file of a supplier's text, but for its input and output.
+#![tactic(auto)]
+
 ghost use Rattle.prelude.specs.Limits.{most_pairs};
 ghost use Rattle.decimal.specs.code.Added.{Added};
 ghost use Rattle.builder.specs.Build.{build_of};

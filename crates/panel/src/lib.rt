@@ -1,4 +1,6 @@
 // The schedule of a panel, a batch of codes fired together (document 01, "Panel"), and the cell of the code that decides it.
+#![tactic(auto)]
+
 ghost use Rattle.std.specs.Prelude.{◌≤◌, cond, ◌≡◌, length};
 ghost use Rattle.lookup.specs.Lookup.{lookup_of};
 ghost use Rattle.table.specs.code.Sized.{WithBlocks, HashOf};

@@ -1,4 +1,6 @@
 // One block of more codes than one: its pairs, which stand in the first of its cells, are put where its least multiplier places them.
+#![tactic(auto)]
+
 ghost use Rattle.std.specs.Prelude.{◌*◌, ◌<◌, ◌≡◌, length, take, replicate, set};
 ghost use Rattle.hash.specs.code.Contract.{Ready, Hashing};
 ghost use Rattle.hash.specs.Hash.{Codes};

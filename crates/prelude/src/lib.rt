@@ -1,4 +1,6 @@
 // What every crate shares: the answers and their numbers, the limits, numbers and lists of them.
+#![tactic(auto)]
+
 pub mod answers;
 pub mod fill;
 pub mod limits;

@@ -1,4 +1,6 @@
 // A build for each of the three primes, as the benchmark calls it from C (bench/primes.h).
+#![tactic(auto)]
+
 ghost use Rattle.primes_c.specs.BuildFor.{BuildForShown};
 ghost use Rattle.prelude.specs.Limits.{most_pairs};
 

@@ -1,3 +1,5 @@
 // Reading an accepted table back.
+#![tactic(auto)]
+
 pub mod numbered;
 pub mod pairs;

@@ -1,4 +1,6 @@
 // Codes equal to an earlier one (refusal 5).
+#![tactic(auto)]
+
 ghost use Rattle.std.specs.Prelude.{◌<◌, ◌≤◌, ◌≡◌, length, take};
 ghost use Rattle.prelude.specs.Answers.{first_of};
 ghost use Rattle.prelude.specs.Limits.{room};

@@ -1,5 +1,7 @@
 // The cases of document 01 that are run: ranges at their ends and one beyond, the largest list and one more, panels and holds at their ends. Each line is
 // the case, then the number and the value that C sees, and of a lookup or a panel the cell.
+#![tactic(auto)]
+
 ghost use Rattle.std.specs.Prelude.{◌≤◌, length};
 
 use prelude::answers::{Numbered, NumberedFound};
