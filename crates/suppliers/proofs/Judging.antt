@@ -18,7 +18,7 @@ use Rattle.prelude.proofs.First.{Below, below_none, below_next, first_found, fir
 use Rattle.suppliers.specs.Text.{lines_of}
 use Rattle.suppliers.specs.Lists.{faulty_line}
 use Rattle.suppliers.specs.code.Scan.{first_line, after_line, begins_line, TextEnd, line_end, judge_of}
-use Rattle.suppliers.proofs.LineLaws.{line_then, after_line, lines_cons, line_begins}
+use Rattle.suppliers.proofs.LineLaws.{line_then, after_line_lem, lines_cons, line_begins}
 use Rattle.suppliers.proofs.Places.{newline_ahead, line_before, no_newline}
 
 -- as many lines have ended at this place, and the others begin there
@@ -80,7 +80,7 @@ module _ {text : List ℕ} {at lines : ℕ} (t : Through text at lines) where
         within = omega (arith, line_within (drop at text), length-drop at text);
         few = omega (arith, t.few, l.some_byte);
         counted = omega (arith, l.below);
-        rest = rw (← drop-drop, after_line, l.others);
+        rest = rw (← drop-drop, after_line_lem, l.others);
       }
 
   -- the line from here on is faulty exactly if it is not that of a pair

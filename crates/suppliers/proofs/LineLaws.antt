@@ -31,8 +31,8 @@ line_then (b ∷ t) =
       | inr e ↦ rw e (ap (λ (l : List ℕ). b ∷ l) (line_then t))
     ]
 
-pub after_line : (t : List ℕ) → drop (length (first_line t)) t ≡ after_line t
-after_line t = rw line_then at (drop_at (first_line t) (after_line t) (length (first_line t)) refl)
+pub after_line_lem : (t : List ℕ) → drop (length (first_line t)) t ≡ after_line t
+after_line_lem t = rw line_then at (drop_at (first_line t) (after_line t) (length (first_line t)) refl)
 
 pub lines_cons : (b : ℕ) (t : List ℕ) → lines_of (b ∷ t) ≡ first_line (b ∷ t) ∷ lines_of (after_line (b ∷ t))
 unfolding lines_of first_line after_line

@@ -106,8 +106,8 @@ module _ (p : ℕ) (codes schedules : List ℕ) where
     abbrev table_runs : List ℕ
     table_runs = runs p (blocks_multiplier p codes) codes (held codes) (held schedules) (cells_of p codes) rest
 
-    table_runs : table_of p codes schedules ++ rest ≡ table_runs
-    table_runs =
+    table_runs_lem : table_of p codes schedules ++ rest ≡ table_runs
+    table_runs_lem =
         ap (λ (s : List ℕ). s ++ rest) table_is
         ∙ with_parts p (front_of p codes) (cells_of p codes) codes schedules rest
         ∙ ap (λ (s : List ℕ). s ++ (tabulate (held codes) (cells_of p codes) ++ (tabulate (held schedules) (cells_of p codes) ++ rest))) (front_of_is p codes)
@@ -124,12 +124,12 @@ module _ (p : ℕ) (codes schedules : List ℕ) where
           schedule_held = λ i h. second_run p _ codes (held codes) (held schedules) (cells_of p codes) rest (code_count table_runs) (cell_count table_runs) i f.counts c h
               ∙ held_same (own_cell p (front_of p codes)) (own_cell p table_runs) codes schedules i (λ x l. own_front p codes table_runs f (omega arith) (get_or codes x 0));
           totals = omega (arith, f.counts, c, needed_is p codes);
-          whole = omega (arith, table_length, ap length table_runs, length-append (table_of p codes schedules) rest);
+          whole = omega (arith, table_length, ap length table_runs_lem, length-append (table_of p codes schedules) rest);
         }
 
   pub tabled : (words : List ℕ) → take (words_needed p codes) words ≡ table_of p codes schedules → Tabled p codes schedules words
   tabled words e =
-      rw (sym (take-append-drop (words_needed p codes) words) ∙ ap (λ (s : List ℕ). s ++ drop (words_needed p codes) words) e ∙ table_runs (drop (words_needed p codes) words))
+      rw (sym (take-append-drop (words_needed p codes) words) ∙ ap (λ (s : List ℕ). s ++ drop (words_needed p codes) words) e ∙ table_runs_lem (drop (words_needed p codes) words))
       (runs_tabled (drop (words_needed p codes) words))
 
 -- ---- one cell

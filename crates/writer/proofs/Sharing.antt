@@ -228,8 +228,8 @@ module _ {shape : Shape} {codes schedules : List ℕ} (d : Writable shape codes 
           (ap (λ (t : List ℕ). take (size j) (drop (at + shape.cells) t)) is
           ∙ standing_read (schedules_stand shape s (multiplier_but pending) F G size (all_cells d) j l wide_F wide_G))
 
-      codes_at : codes_at b words ≡ values_in codes j
-      codes_at = rw (start_is, codes_is) codes_here.0
+      codes_at_lem : codes_at b words ≡ values_in codes j
+      codes_at_lem = rw (start_is, codes_is) codes_here.0
 
       schedules_at_lem : schedules_at b words ≡ values_in schedules j
       schedules_at_lem = rw (start_is, codes_is, cells_is) schedules_here.0
@@ -249,7 +249,7 @@ module _ {shape : Shape} {codes schedules : List ℕ} (d : Writable shape codes 
       sharing_gathered : 2 ≤ m → Gathered p b words
       sharing_gathered some =
           record {
-            searchable = rw codes_at (block_searchable j);
+            searchable = rw codes_at_lem (block_searchable j);
             some = omega arith;
             fits = omega (arith, not_many);
             apart = rw (codes_is, cells_is) inside;
@@ -273,9 +273,9 @@ module _ {shape : Shape} {codes schedules : List ℕ} (d : Writable shape codes 
             let Q : ℕ → ℕ = multiplier_but pending in
             let F₁ : ℕ → List ℕ = cells_but next codes in
             let G₁ : ℕ → List ℕ = cells_but next schedules in
-            let turned : cells_multiplier p (codes_at b words) ≡ multiplier_but next j = rw (codes_at, written) refl in
-            let first : filled_by p (cells_multiplier p (codes_at b words)) (codes_at b words) (codes_at b words) ≡ F₁ j = rw (codes_at, written) refl in
-            let second : filled_by p (cells_multiplier p (codes_at b words)) (codes_at b words) (schedules_at b words) ≡ G₁ j = rw (codes_at, schedules_at_lem, written) refl in
+            let turned : cells_multiplier p (codes_at b words) ≡ multiplier_but next j = rw (codes_at_lem, written) refl in
+            let first : filled_by p (cells_multiplier p (codes_at b words)) (codes_at b words) (codes_at b words) ≡ F₁ j = rw (codes_at_lem, written) refl in
+            let second : filled_by p (cells_multiplier p (codes_at b words)) (codes_at b words) (schedules_at b words) ≡ G₁ j = rw (codes_at_lem, schedules_at_lem, written) refl in
             placed
             ∙ rw (first, second, turned, start_is, cells_is, is) refl
             ∙ ap (λ (t : List ℕ). set t (3 + shape.codes + j) (multiplier_but next j))

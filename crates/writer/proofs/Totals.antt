@@ -132,14 +132,14 @@ module _ {p a : ℕ} (s : Searchable p (a ∷ [])) where
   unfolding own_cell block_of cell_in
   one_own = rw (one_cell p 1 a) (omega (arith, one_cell p 1 a))
 
-  one_table : (v : ℕ) → one_table a v ≡ table_with p (front_with p 1 (a ∷ [])) 1 (a ∷ []) (v ∷ [])
+  one_table_lem : (v : ℕ) → one_table a v ≡ table_with p (front_with p 1 (a ∷ [])) 1 (a ∷ []) (v ∷ [])
   unfolding table_with tabulate held_at paired value_where
-  one_table v = rw (one_front, one_own)
+  one_table_lem v = rw (one_front, one_own)
 
   pub one_valid : {v total : ℕ} {words words' : List ℕ} → OneBuilt a v words total words' → ValidBuilt p (a ∷ []) (v ∷ []) words total words'
   one_valid {v} {total} {words} b =
       let needed : words_needed p (a ∷ []) ≡ 7 = sym (total_is one_least) in
-      let table : table_of p (a ∷ []) (v ∷ []) ≡ one_table a v = sym (one_table v ∙ table_is one_least (v ∷ []) words) in
+      let table : table_of p (a ∷ []) (v ∷ []) ≡ one_table a v = sym (one_table_lem v ∙ table_is one_least (v ∷ []) words) in
       record { totals = b.totals ∙ sym needed; words_at_exit = rw (needed, table) b.words_at_exit }
 
 -- ---- what the search for k leaves
