@@ -12,7 +12,7 @@ use hash::Hasher;
 use prelude::numbers::{occupied, one, wide};
 
 // The hash of a block's codes into its cells, and the block's number.
-#[derive(Drop)]
+#[derive(Clone, Copy)]
 pub struct BlockHash {
     pub number: u32,
     pub multiplier: u32,
@@ -20,7 +20,7 @@ pub struct BlockHash {
 }
 
 // What the test of some cells of a block finds: whether one holds a code and is not its own, and how many codes there are.
-#[derive(Drop)]
+#[derive(Clone, Copy)]
 pub struct BlockTest {
     pub misplaced: bool,
     pub codes: usize,

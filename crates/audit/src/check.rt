@@ -18,7 +18,7 @@ use prelude::limits::MOST_PAIRS;
 use prelude::numbers::wide;
 use table::words::{bad_multiplier, table_hash, too_many_cells, too_many_codes, too_short, total};
 
-#[derive(Drop)]
+#[derive(Clone, Copy)]
 pub enum Checked {
     // n and the total
     Accepted(u32, u32),

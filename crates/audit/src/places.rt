@@ -17,7 +17,7 @@ use table::words::{block_end, block_multiplier, block_start};
 const RUN: usize = 32;
 
 // How many blocks of a run have one cell, and how many have more.
-#[derive(Drop)]
+#[derive(Clone, Copy)]
 pub struct Listed {
     pub ones: usize,
     pub more: usize,

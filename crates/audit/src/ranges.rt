@@ -11,7 +11,7 @@ use prelude::numbers::outside;
 use table::words::{block_multiplier, block_start, cell_code, cell_schedule};
 
 // What a condition goes over.
-#[derive(Drop)]
+#[derive(Clone, Copy)]
 pub enum Range {
     // 16: the starts of the blocks
     Starts,

@@ -9,7 +9,7 @@ use lists::list::{ListAnswer, validate};
 use prelude::limits::MOST_PAIRS;
 use writer::valid::write_valid;
 
-#[derive(Drop)]
+#[derive(Clone, Copy)]
 pub enum BuildAnswer {
     // the total
     Built(u32),

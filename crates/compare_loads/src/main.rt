@@ -7,7 +7,7 @@ use digests::lent::count_from;
 use prelude::numbers::wide;
 
 // A load that is asked for: 1 where its table is listed, its length, and how many places are lent.
-#[derive(Drop)]
+#[derive(Clone, Copy)]
 struct Asked {
     listed: u32,
     length: u32,

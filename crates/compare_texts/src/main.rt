@@ -90,7 +90,7 @@ fn write_and_print(codes: &[u32], schedules: &[u32], text: &mut [u8]) {
 }
 
 // What a case begins with: its kind, and how many codes, schedules and bytes there are.
-#[derive(Drop)]
+#[derive(Clone, Copy)]
 struct Head {
     kind: u32,
     codes: u32,

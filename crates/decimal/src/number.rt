@@ -37,7 +37,7 @@ pub fn is_number(text: &[u8], at: usize, end: usize) -> bool
 }
 
 // A number that was read, and where it ends.
-#[derive(Drop)]
+#[derive(Clone, Copy)]
 pub struct Scanned {
     pub end: usize,
     pub value: u64,

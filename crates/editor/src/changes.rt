@@ -12,7 +12,7 @@ use prelude::numbers::{one, wide};
 use writer::valid::{write_empty, write_one, write_valid};
 
 // How the list is changed: the code is left out, and where `added` is 1, not 0, put in with a schedule.
-#[derive(Drop)]
+#[derive(Clone, Copy)]
 pub(crate) struct Change {
     pub(crate) code: u32,
     pub(crate) schedule: u32,

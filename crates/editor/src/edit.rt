@@ -13,7 +13,7 @@ use audit::check::{Checked, check_for};
 use prelude::limits::MOST_PAIRS;
 use prelude::numbers::{outside, wide};
 
-#[derive(Drop)]
+#[derive(Clone, Copy)]
 pub enum Edited {
     // the new total
     Rebuilt(u32),

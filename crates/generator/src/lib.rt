@@ -12,7 +12,7 @@ use prelude::limits::MOST_PAIRS;
 
 pub mod numbered;
 
-#[derive(Drop)]
+#[derive(Clone, Copy)]
 pub enum Generated {
     // the length
     Pairs(u32),

@@ -5,7 +5,7 @@ ghost use Rattle.std.specs.Prelude.{◌*◌, ◌<◌, ◌≤◌, ◌≡◌};
 ghost use Rattle.hash.specs.code.Contract.{Hashed, Remainder, Ready, Hashing, reciprocal_of};
 
 // The hash by one multiplier among the same places, for many codes: with the precomputed reciprocal of the number of places.
-#[derive(Drop)]
+#[derive(Clone, Copy)]
 pub struct Hasher {
     pub prime: u32,
     pub multiplier: u32,

@@ -17,7 +17,7 @@ const PLAIN: u32 = 64;
 const STEPS: u32 = 4096;
 
 // The multipliers first, first + step, .., first + reach × step, for codes of which at most so many pairs may share one of so many places.
-#[derive(Drop)]
+#[derive(Clone, Copy)]
 pub struct Run {
     pub prime: u32,
     pub places: u32,
@@ -190,7 +190,7 @@ fn failing(run: Run, codes: &[u32], keys: &mut [u32]) -> u32
 }
 
 // How many of the first multipliers of a run fail: all of them, or as many as come before one that may pass; and how far to try the first jump of the next run.
-#[derive(Drop)]
+#[derive(Clone, Copy)]
 pub struct Walked {
     pub failed: u32,
     pub guess: u32,
@@ -272,7 +272,7 @@ fn stretch(run: Run, codes: &[u32], keys: &mut [u32]) -> u32
 }
 
 // A step, the number of residues that it moves far, and how much it moves residues: the largest of the other moves, and a part of the prime for each far one.
-#[derive(Drop)]
+#[derive(Clone, Copy)]
 pub struct Pace {
     pub step: u32,
     pub far: u32,

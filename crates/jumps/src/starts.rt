@@ -19,7 +19,7 @@ pub(crate) fn smaller(a: u32, b: u32) -> u32
 }
 
 // The least and the largest code of a list.
-#[derive(Drop)]
+#[derive(Clone, Copy)]
 pub struct Spread {
     pub low: u32,
     pub high: u32,

@@ -10,7 +10,7 @@ ghost use Rattle.lister.specs.Input.{InputListed};
 use libc::STDIN_FILENO;
 
 // How many bytes were read, and how many bytes the text takes.
-#[derive(Drop)]
+#[derive(Clone, Copy)]
 pub struct Lengths {
     pub read: usize,
     pub listed: usize,

@@ -7,7 +7,7 @@ ghost use Rattle.lists.specs.List.{list_or, listed_of};
 use crate::range::first_outside;
 use repeats::first_repeated;
 
-#[derive(Drop)]
+#[derive(Clone, Copy)]
 pub enum ListAnswer {
     // none of 1 to 5 holds
     Valid,

@@ -17,7 +17,7 @@ use table::words::{
 
 pub mod branch_free;
 
-#[derive(Drop)]
+#[derive(Clone, Copy)]
 pub enum Found {
     // a schedule, and the cell that the code is in
     Schedule(u32, u32),

@@ -18,7 +18,7 @@ use prelude::limits::MOST_PAIRS;
 use prelude::numbers::{outside, some_outside, wide};
 use table::words::{has_blocks, table_hash};
 
-#[derive(Drop)]
+#[derive(Clone, Copy)]
 pub enum Fired {
     // the schedule with the longest hold, the least of several, and the cell of the first code that has it
     Schedule(u32, u32),
@@ -76,7 +76,7 @@ fn lookup_in(h: Hasher, limit: u32, words: &[u32], code: u32) -> Found
 }
 
 // A schedule that is found, with its hold and the cell of its code.
-#[derive(Drop)]
+#[derive(Clone, Copy)]
 struct Decided {
     hold: u32,
     schedule: u32,

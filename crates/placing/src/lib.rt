@@ -15,7 +15,7 @@ use prelude::numbers::wide;
 use search::cells::{more_multiplier, two_multiplier};
 
 // A block in the words: its first cell, how many codes it has, and the cells of the table: a cell's schedule stands as many words after its code.
-#[derive(Drop)]
+#[derive(Clone, Copy)]
 pub struct Block {
     pub start: usize,
     pub codes: usize,

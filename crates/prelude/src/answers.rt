@@ -3,7 +3,7 @@
 // 0 with the last value of a result, 1000 for an absent or unknown code, or a refusal's number with what comes with it. C sees it as it is
 // (include/glass.h).
 #[repr(C)]
-#[derive(Drop)]
+#[derive(Clone, Copy)]
 pub struct Numbered {
     pub number: u32,
     pub value: u32,
@@ -11,7 +11,7 @@ pub struct Numbered {
 
 // The same of an operation whose values are sizes of any memory, such as the bytes of a text.
 #[repr(C)]
-#[derive(Drop)]
+#[derive(Clone, Copy)]
 pub struct NumberedSize {
     pub number: u32,
     pub value: usize,
@@ -19,7 +19,7 @@ pub struct NumberedSize {
 
 // The same of a lookup or a panel: where a schedule is found, with its cell; 0 where there is none.
 #[repr(C)]
-#[derive(Drop)]
+#[derive(Clone, Copy)]
 pub struct NumberedFound {
     pub number: u32,
     pub value: u32,

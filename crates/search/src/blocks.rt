@@ -9,14 +9,14 @@ use hash::Hasher;
 use jumps::runs::after;
 
 // The cells of a list under one multiplier, where they keep the bound.
-#[derive(Drop)]
+#[derive(Clone, Copy)]
 enum Count {
     Fits(u32),
     TooMany,
 }
 
 // The least multiplier of a list, and its cells.
-#[derive(Drop)]
+#[derive(Clone, Copy)]
 pub struct Multiplier {
     pub k: u32,
     pub c: u32,

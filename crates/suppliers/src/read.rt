@@ -4,7 +4,7 @@ ghost use Rattle.suppliers.specs.Answered.{text_read_of};
 
 use crate::scan::{Judged, fill, judge};
 
-#[derive(Drop)]
+#[derive(Clone, Copy)]
 pub enum TextRead {
     // the number of pairs
     Pairs(usize),

@@ -40,7 +40,7 @@ fn line_end(text: &[u8], at: usize) -> usize
     end + 1
 }
 
-#[derive(Drop)]
+#[derive(Clone, Copy)]
 pub(crate) enum Judged {
     // no line is faulty: how many there are
     Lines(usize),

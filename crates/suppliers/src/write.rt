@@ -7,7 +7,7 @@ ghost use Rattle.suppliers.specs.Answered.{text_written_of};
 use lines::{pairs_length, put_pairs_before};
 use prelude::limits::MOST_PAIRS;
 
-#[derive(Drop)]
+#[derive(Clone, Copy)]
 pub enum TextWritten {
     // the bytes written
     Bytes(usize),

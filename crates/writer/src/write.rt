@@ -12,7 +12,7 @@ use prelude::limits::FEW;
 use prelude::numbers::wide;
 
 // The numbers of a table that are known before a word is written: its prime, k, n and c.
-#[derive(Drop)]
+#[derive(Clone, Copy)]
 pub struct Shape {
     pub prime: u32,
     pub multiplier: u32,
