@@ -65,6 +65,7 @@ digit_bounds b e = let t = both_true (leb 48 b) (leb b 57) e in (leb-true 48 b t
 
 pub digits_plain : (t : List ℕ) → Plain (digits_in t)
 unfolding digits_in
+digits_plain [] i h = elim h [ ]
 digits_plain (b ∷ t) zero h =
     elim (true_or_false (is_digit b)) [
       | inl e ↦ rw (e, digits_in) (digit_bounds b e)
@@ -133,6 +134,7 @@ value_below m t h = omega (arith, value_lt 0 t, ten_powers (length (digits_in t)
 -- and more than m, of which the first is not 0, for no less
 pub value_from : (m : ℕ) (digits : List ℕ) → m < length digits → 49 ≤ get_or digits 0 0 → 10 ^ m ≤ decimal_value digits
 unfolding value_after
+value_from m [] h l = elim h [ ]
 value_from m (b ∷ digits) h l =
     omega (
       arith,

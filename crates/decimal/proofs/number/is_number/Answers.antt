@@ -5,25 +5,13 @@ use mathlib.Core.List.{List, ◌∷◌}
 use mathlib.Core.Path.{◌≡◌, sym, ◌∙◌, ap}
 use native.Mathlib.Decide.{dec_lt}
 use native.Mathlib.Omega.{arith}
-use borrow.Author.Rules.{rules}
 use borrow.Author.Tests.{lt-ltb, le-ltb, le-leb, lt-leb}
 use lib.Dec.{eqb, leb, ltb}
 use lib.ListN.{length, get_or, drop}
 use Rattle.decimal.specs.Number.{value_after, decimal_value, is_digit, digits_in, is_number}
 use Rattle.decimal.specs.code.Digits.{digits_end}
-use Rattle.decimal.proofs.Numbers.{
-  digits_more,
-  digits_first,
-  digits_plain,
-  value_lt,
-  value_below,
-  value_from,
-  judge_none,
-  judge_zero,
-  judge_other,
-}
-use Rattle.decimal.proofs.number.is_number.Statement.{statement}
-use Rattle.decimal.proofs.number.is_number.Tie as tie
+use Rattle.decimal.proofs.Numbers.{digits_more, digits_first, digits_plain, value_lt, value_below, value_from, judge_none, judge_zero, judge_other}
+use Rattle.decimal.proofs.number.is_number.Goals as goal
 
 abbrev digits : List ℕ → ℕ → List ℕ
 digits text at = digits_in (drop at text)
@@ -73,21 +61,22 @@ module _ (text : List ℕ) (at end : ℕ) (e : (end ≡ digits_end text at) × (
         let below = rw nine at (value_lt (10 * 0 + (get_or text at 0 - 48)) (drop (at + 1) text)) in
         sym (by_value some ∙ le-leb (decimal_value (digits text at)) 4294967295 (rw (bytes some) (omega (arith, below))))
 
-returns-5 : tie.Need-returns-5
-returns-5 c =
-    let z = c.before.before.before.before.before.before in
-    rw c.before.scan-number.ensures.value (sym (by_value _ _ _ z.before.before.before.requires z.if1.false (omega arith)))
+pub returns-then-text-at-eq48 : goal.returns-then-text-at-eq48
+returns-then-text-at-eq48 c =
+    zero_first _ _ _ c.requires c.if-text-at-eq48.true
 
-pub is-number-spec : {M : Type 1} → statement M
-is-number-spec =
-    tie.close
-    (tie.spec
-    (λ c. search rules)
-    (λ c. search rules)
-    (λ c. zero_first _ _ _ c.before.before.before.requires c.if1.true)
-    (λ c. let z = c.before in few _ _ _ z.before.before.before.requires z.if1.false c.if2.true)
-    (λ c. let z = c.before.before in many _ _ _ z.before.before.before.requires z.if1.false c.if3.true)
-    (λ c. search rules)
-    (λ c. let z = c.before.before.before.before in low _ _ _ z.before.before.before.requires z.if1.false (omega arith) c.if4.true)
-    (λ c κs. search rules)
-    returns-5)
+pub returns-then-digits-lt10 : goal.returns-then-digits-lt10
+returns-then-digits-lt10 c =
+    few _ _ _ c.requires c.if-text-at-eq48.false c.if-digits-lt10.true
+
+pub returns-then-digits-gt10 : goal.returns-then-digits-gt10
+returns-then-digits-gt10 c =
+    many _ _ _ c.requires c.if-text-at-eq48.false c.if-digits-gt10.true
+
+pub returns-then-text-at-lt52 : goal.returns-then-text-at-lt52
+returns-then-text-at-lt52 c =
+    low _ _ _ c.requires c.if-text-at-eq48.false (omega arith) c.if-text-at-lt52.true
+
+pub returns : goal.returns
+returns c =
+    rw c.scan_number.ensures.value (sym (by_value _ _ _ c.requires c.if-text-at-eq48.false (omega arith)))
