@@ -5,12 +5,12 @@ use native.Mathlib.Nat.{le_refl, mul-le-mul, add-sub_of_le}
 use native.Mathlib.Omega.{arith}
 use mathlib.Core.Bool.{cond}
 use mathlib.Core.List.{List, [], ◌∷◌}
-use mathlib.Core.Path.{◌≡◌, refl, sym, ap, ◌∙◌}
+use mathlib.Core.Path.{◌≡◌, refl, sym, ap}
 use borrow.Author.Tests.{lt-ltb, le-ltb}
 use lib.Dec.{eqb, ltb}
 use lib.ListN.{length, get_or, drop}
 use lib.Seq.{drop-length}
-use Rattle.hash.specs.Hash.{hash_of, load, together, sum}
+use Rattle.hash.specs.Hash.{hash_of, load, together}
 use Rattle.hash.proofs.Counting.{sum_load, sum_squares}
 use Rattle.hash.proofs.Indicators.{indicator, indicator_le, indicator_eq, indicator_ne, indicator_sym}
 use Rattle.hash.proofs.Sums.{sum_mono, sum_add, sum_const, sum_times}
@@ -134,35 +134,64 @@ module _ (p k w : ℕ) where
   equals_absent x [] none = refl
   equals_absent x (y ∷ s) none = omega (arith, indicator_ne y x (none 0 (omega arith)), equals_absent x s (λ i l. none (suc i) (omega arith)))
 
+  others_none : (f : ℕ → ℕ) (codes : List ℕ) → others f [] codes ≡ 0
+  unfolding others
+  others_none f codes = refl
+
+  -- one more code, with a small number or a large one
+  others_small :
+      (f : ℕ → ℕ) (x a : ℕ) (s codes : List ℕ) → x < 2147483648 → others f (x ∷ s) (a ∷ codes) ≡ others f s codes
+  unfolding others
+  others_small f x a s codes small = rw (lt-ltb x 2147483648 small) (omega arith)
+
+  others_large :
+      (f : ℕ → ℕ) (x a : ℕ) (s codes : List ℕ) → 2147483648 ≤ x → others f (x ∷ s) (a ∷ codes) ≡ f (hash_of p k w a) + others f s codes
+  unfolding others
+  others_large f x a s codes large = rw (le-ltb x 2147483648 large) (omega arith)
+
+  load_small :
+      (t x a : ℕ) (s codes : List ℕ) → x < 2147483648 → small_load t (x ∷ s) (a ∷ codes) ≡ indicator (eqb (hash_of p k w a) t) + small_load t s codes
+  unfolding small_load
+  load_small t x a s codes small = rw (lt-ltb x 2147483648 small) (omega arith)
+
+  load_large : (t x a : ℕ) (s codes : List ℕ) → 2147483648 ≤ x → small_load t (x ∷ s) (a ∷ codes) ≡ small_load t s codes
+  unfolding small_load
+  load_large t x a s codes large = rw (le-ltb x 2147483648 large) (omega arith)
+
   pub pairs_others :
       (s codes : List ℕ) → length s ≡ length codes
       → ((i j : ℕ) → i < j → j < length s → get_or s i 0 ≡ get_or s j 0
       → (get_or s i 0 < 2147483648) × (hash_of p k w (get_or codes i 0) ≡ hash_of p k w (get_or codes j 0)))
       → equal_pairs s + others (λ t. small_load t s codes) s codes ≤ together p k w codes
-  unfolding equal_pairs together small_load others
-  pairs_others [] codes same each = omega arith
+  unfolding equal_pairs together
+  pairs_others [] codes same each = omega (arith, others_none (λ t. small_load t [] codes) codes)
   pairs_others (x ∷ s) [] same each = absurd (omega arith)
   pairs_others (x ∷ s) (a ∷ codes) same each =
       let rest : equal_pairs s + others (λ t. small_load t s codes) s codes ≤ together p k w codes =
       pairs_others s codes (omega arith) (λ i j l h. each (suc i) (suc j) (omega arith) (omega arith)) in
+      let all : ℕ → ℕ = λ t. small_load t (x ∷ s) (a ∷ codes) in
+      let old : ℕ → ℕ = λ t. small_load t s codes in
+      let here : ℕ → ℕ = λ t. indicator (eqb (hash_of p k w a) t) in
       elim (dec_lt x 2147483648) [
         | yes small ↦
-            rw (lt-ltb x 2147483648 small)
-            (omega (
+            omega (
               arith,
               rest,
-              others_add (λ t. indicator (eqb (hash_of p k w a) t)) (λ t. small_load t s codes) s codes,
+              others_small all x a s codes small,
+              others_le all (λ t. here t + old t) s codes (λ t. omega (arith, load_small t x a s codes small)),
+              others_add here old s codes,
               equals_others x (hash_of p k w a) s codes small (omega arith) (λ i l e. sym (each 0 (suc i) (omega arith) (omega arith) (sym e)).1),
-            ))
+            )
         | no large ↦
-            rw (le-ltb x 2147483648 (omega arith))
-            (omega (
+            omega (
               arith,
               rest,
-              others_le (λ t. 0 + small_load t s codes) (λ t. small_load t s codes) s codes (λ t. omega arith),
+              others_large all x a s codes (omega arith),
+              load_large (hash_of p k w a) x a s codes (omega arith),
+              others_le all old s codes (λ t. omega (arith, load_large t x a s codes (omega arith))),
               equals_absent x s (λ i l e. large (each 0 (suc i) (omega arith) (omega arith) (sym e)).0),
               small_load_lem (hash_of p k w a) s codes,
-            ))
+            )
       ]
 
 -- (m - t) * (m - t - 1) is not below 0, so that the square of a load is at least a line

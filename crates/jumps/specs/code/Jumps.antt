@@ -1,5 +1,5 @@
 -- Multipliers that are passed over: each of them puts more pairs of codes together than it may.
-use Rattle.std.specs.Prelude.{ℕ, zero, suc, min, ◌+◌, ◌*◌, ◌-◌, ◌/◌, ◌%◌, ◌<◌, ◌≤◌, Bool, cond, List, [], ◌∷◌, ◌≡◌, eqb, ltb, leb, length, get_or}
+use Rattle.std.specs.Prelude.{ℕ, min, ◌+◌, ◌*◌, ◌-◌, ◌%◌, ◌<◌, ◌≤◌, Bool, cond, List, [], ◌∷◌, eqb, ltb, leb, length, get_or}
 use Rattle.hash.specs.Hash.{hash_of, together, Codes}
 use Rattle.prelude.specs.Limits.{few, room}
 use Rattle.prelude.specs.Tabulate.{tabulate}
