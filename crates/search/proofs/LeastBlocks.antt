@@ -4,7 +4,7 @@ use native.Mathlib.Omega.{arith}
 use mathlib.Core.Bool.{false}
 use mathlib.Core.List.{List}
 use mathlib.Core.Logic.{inl, inr}
-use mathlib.Core.Path.{◌≡◌}
+use mathlib.Core.Path.{◌∙◌, ◌≡◌}
 use borrow.Author.Tests.{lt-leb}
 use lib.ListN.{length}
 use Rattle.hash.specs.Hash.{cells}
@@ -37,13 +37,15 @@ module _ {p k : ℕ} (codes : List ℕ) {count : Count} (h : TryingBlocks p code
         | inr e ↦ let over : count_of p k codes ≡ TooMany = rw e in record { multiplier = cc; cells = cc }
       ]
 
-  pub blocks_more : count ≡ TooMany → TryingBlocks p codes (k + 1)
+  pub blocks_more : ((c : ℕ) → count ≡ Fits c → ⊥) → TryingBlocks p codes (k + 1)
   blocks_more over = trying_more h fails
     where
       fails : keeps p codes k ≡ false
       fails =
           elim (true_or_false (keeps p codes k)) [
-            | inl e ↦ let kept : count_of p k codes ≡ Fits (cells p k codes) = rw e in cc
+            | inl e ↦
+                let kept : count_of p k codes ≡ Fits (cells p k codes) = rw e in
+                absurd (over (cells p k codes) (answer ∙ kept))
             | inr e ↦ e
           ]
 

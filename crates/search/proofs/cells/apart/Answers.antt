@@ -1,0 +1,13 @@
+use native.Mathlib.Omega.{arith}
+use Rattle.hash.proofs.BitSets.{single_is}
+use Rattle.search.proofs.Taking.{taking_start, taking_more}
+use Rattle.search.proofs.cells.apart.Goals as goal
+
+pub loop-i-init : goal.loop-i-init
+loop-i-init c =
+    taking_start _ _ _ _
+
+pub loop-i-preserved : goal.loop-i-preserved
+loop-i-preserved c =
+    taking_more c.loop-i.invariant c.loop-i-test.true c.hash_by.result c.hash_by.ensures.value _
+    (single_is c.hash_by.result (omega (arith, c.hash_by.ensures.range)))

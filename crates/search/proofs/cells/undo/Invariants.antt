@@ -1,0 +1,12 @@
+-- `search::cells::undo` meets its contract. The loop's invariant is `Placing`: the codes from i on are in their cells. The measure is what is
+-- left of the block.
+use Prim.Native.Nat.{◌-◌}
+use lib.ListN.{length}
+use Rattle.search.specs.code.Cells.{Placing}
+use Rattle.search.proofs.cells.undo.Given as goal
+
+abbrev pub invariant-loop-i : goal.invariant-loop-i
+invariant-loop-i l = Placing l.h.prime l.h.multiplier l.h.places l.block l.i l.cells
+
+abbrev pub decreases-loop-i : goal.decreases-loop-i
+decreases-loop-i l = length l.block - l.i
