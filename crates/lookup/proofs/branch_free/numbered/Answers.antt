@@ -3,14 +3,13 @@ use Prim.Native.Nat.{ℕ, ◌/◌, ◌%◌}
 use mathlib.Core.Logic.{inl, inr}
 use mathlib.Core.Path.{◌≡◌, refl, ◌∙◌}
 use native.Mathlib.Omega.{arith}
-use borrow.Author.Rules.{rules}
 use borrow.Author.Tests.{eqb-true, eq-eqb, ne_eqb}
 use lib.Dec.{eqb}
 use Rattle.hash.proofs.Indicators.{true_or_false}
 use Rattle.lookup.specs.code.OneWord.{word_answer}
 use Rattle.prelude.specs.Numbers.{number_of, found_value_of, found_cell_of}
-use Rattle.lookup.proofs.branch_free.numbered.Statement.{statement}
-use Rattle.lookup.proofs.branch_free.numbered.Tie as tie
+use Rattle.lookup.proofs.branch_free.numbered.Goals as goal
+use Rattle.lookup.proofs.branch_free.numbered.Goals.{then-number-eq0, else-number-eq0}
 
 module _ (word cell : ℕ) where
   halves_shown : (word % 4294967296 ≡ number_of (word_answer word cell)) × (word / 4294967296 ≡ found_value_of (word_answer word cell))
@@ -35,17 +34,14 @@ module _ (word cell : ℕ) where
       rw (ne_eqb _ _ some)
       (elim (true_or_false (eqb word 1000)) [ inl none ↦ rw none | inr bad ↦ rw bad ])
 
-returns : tie.Need-returns
+pub returns : goal.returns
 returns c =
     record {
       number_shown = (halves_shown _ _).0;
       value_shown = (halves_shown _ _).1;
       cell_shown =
-          elim c.if1.branch [
-            | inl (over, there) ↦ there ∙ cell_shown _ _ over.taken
-            | inr (under, none) ↦ none ∙ no_cell _ _ under.left
+          elim c.if-number-eq0.branch [
+            | then-number-eq0 w ↦ w.cell-is ∙ cell_shown _ _ w.if-number-eq0.true
+            | else-number-eq0 w ↦ w.cell-is ∙ no_cell _ _ w.if-number-eq0.false
           ];
     }
-
-pub numbered-spec : {M : Type 1} → statement M
-numbered-spec = tie.close (tie.spec (λ c. search rules) (λ c. search rules) returns)
