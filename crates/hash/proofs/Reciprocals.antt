@@ -1,6 +1,6 @@
 -- Division by a reciprocal, after Granlund and Montgomery: where r * w is P or above it by less than w, and x * w is below P,
 -- x * r / P is x / w. In this crate P is 2 ^ 32.
-use Prim.Native.Nat.{ℕ, ◌+◌, ◌*◌, ◌/◌, ◌%◌, ◌<◌, ◌≤◌}
+use Prim.Native.Nat.{ℕ, ◌+◌, ◌*◌, ◌/◌, ◌<◌, ◌≤◌}
 use mathlib.Core.Path.{◌≡◌}
 use native.Mathlib.Nat.{mod-lt, div-add-mod', mul-le-mul_left, mul-le-mul_right, div-eq_of_lt-le, lt_of_mul-lt-mul_right}
 use native.Mathlib.Decide.{dec_le}

@@ -1,6 +1,6 @@
 -- The hash of the two-level table (source document 000), for any prime p, and the least multiplier.
 -- A multiplier is k for the blocks and q for the cells of one block. Definitions only.
-use Rattle.std.specs.Prelude.{ℕ, zero, suc, ◌+◌, ◌*◌, ◌-◌, ◌/◌, ◌%◌, ◌<◌, ◌≤◌, Bool, true, false, cond, List, [], ◌∷◌, ◌≡◌, eqb, length, get_or}
+use Rattle.std.specs.Prelude.{ℕ, zero, suc, ◌+◌, ◌*◌, ◌-◌, ◌%◌, ◌<◌, Bool, true, false, cond, List, [], ◌∷◌, ◌≡◌, eqb, length, get_or}
 
 -- the place of code a among w places: its block (w = n), or its cell in a block (w the block's cells)
 unfoldable pub hash_of : ℕ → ℕ → ℕ → ℕ → ℕ

@@ -1,6 +1,6 @@
 -- The answers of every operation, and the tests that lead to them (document 01, "What the controller has").
 -- Refusals are tested in the order written: one stands below the other, and each test is over all pairs, blocks or cells.
-use Rattle.std.specs.Prelude.{ℕ, zero, suc, Bool, true, false, cond, ◌||◌, List, [], ◌∷◌, ◌++◌, ltb, length, drop}
+use Rattle.std.specs.Prelude.{ℕ, zero, suc, Bool, cond, ◌||◌, List, [], ◌∷◌, ◌++◌, ltb, length, drop}
 
 -- an answer in the paper's numbers
 pub data Answer : Type 0 where

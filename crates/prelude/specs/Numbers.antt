@@ -1,5 +1,5 @@
 -- An answer as a number and a value: what C sees of it (include/glass.h), and what a refusal's line in a listing shows.
-use Rattle.std.specs.Prelude.{ℕ, ◌-◌, List, ◌≡◌, length, get_or}
+use Rattle.std.specs.Prelude.{ℕ, ◌-◌, ◌≡◌, length, get_or}
 use Rattle.prelude.specs.Answers.{Answer, given, absent, unknown, refused}
 use Rattle.prelude.specs.declared.answers.Numbered.{Numbered}
 use Rattle.prelude.specs.declared.answers.NumberedSize.{NumberedSize}

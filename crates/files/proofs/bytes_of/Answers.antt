@@ -1,4 +1,3 @@
-use Prim.Native.Nat.{◌-◌}
 use Rattle.files.proofs.ByteLaws.{bytes_start, bytes_more}
 use Rattle.files.proofs.bytes_of.Goals as goal
 
