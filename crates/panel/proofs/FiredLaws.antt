@@ -23,19 +23,16 @@ told (refused number i) =
 
 told_fired : (f : Fired) → told (fired_of f) ≡ f
 unfolding told
-told_fired f =
-    elim f [
-      | Schedule s i ↦ refl
-      | Unknown i ↦ refl
-      | CodeOutOfRange i ↦ refl
-      | TooFewWords i ↦ refl
-      | BadSizes i ↦ refl
-      | BadBlock i ↦ refl
-      | NotInUse i ↦ refl
-      | NoCodes ↦ refl
-      | TooManyCodes ↦ refl
-      | BadHolds ↦ refl
-    ]
+told_fired (Schedule s i) = refl
+told_fired (Unknown i) = refl
+told_fired (CodeOutOfRange i) = refl
+told_fired (TooFewWords i) = refl
+told_fired (BadSizes i) = refl
+told_fired (BadBlock i) = refl
+told_fired (NotInUse i) = refl
+told_fired NoCodes = refl
+told_fired TooManyCodes = refl
+told_fired BadHolds = refl
 
 pub fired_injective : (a b : Fired) → fired_of a ≡ fired_of b → a ≡ b
 fired_injective a b e = sym (told_fired a) ∙ ap told e ∙ told_fired b

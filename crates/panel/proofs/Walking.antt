@@ -10,8 +10,6 @@ use native.Mathlib.Omega.{arith}
 use borrow.Author.Tests.{lt-ltb, le-ltb, ltb-true, ltb-false, eqb-true, eqb-false, eq-eqb, ne_eqb}
 use lib.Dec.{eqb, ltb}
 use lib.ListN.{length, get_or}
-use denote.Enum.Declared.{tag_of}
-use types.Run.{OneOf, miss}
 use Rattle.hash.proofs.Indicators.{true_or_false}
 use Rattle.prelude.specs.Answers.{Answer, given, absent, unknown, refused, first_of}
 use Rattle.prelude.specs.Numbers.{found_value_of}
@@ -20,7 +18,6 @@ use Rattle.lookup.specs.Found.{found_of}
 use Rattle.lookup.specs.declared.Found.{Found}
 use Rattle.lookup.specs.declared.Found.TheVariants.{Schedule, Absent, CodeOutOfRange, TooFewWords, BadSizes, BadBlock}
 use Rattle.table.specs.code.Sized.{has_blocks}
-use Rattle.lookup.specs.contracts.Found.{the_type}
 use Rattle.prelude.proofs.First.{Below, below_none, below_next, first_is, first_found, first_none}
 use Rattle.prelude.proofs.Laws.{or_false}
 use Rattle.lookup.proofs.Steps.{no_blocks}
@@ -252,8 +249,8 @@ module _ (p limit : ℕ) (words codes : List ℕ) where
         ]
 
 -- a lookup that gives no schedule ends it
-pub unfound_ends : (holds : List ℕ) (f : Found) → OneOf (1 ∷ 2 ∷ 3 ∷ 4 ∷ 5 ∷ []) (tag_of the_type f) → ends holds (found_of f) ≡ true
-unfound_ends holds (Schedule s at) k = absurd (miss (1 ∷ 2 ∷ 3 ∷ 4 ∷ 5 ∷ []) 0 tt k)
+pub unfound_ends : (holds : List ℕ) (f : Found) → ((s at : ℕ) → f ≡ Schedule s at → ⊥) → ends holds (found_of f) ≡ true
+unfound_ends holds (Schedule s at) k = absurd (k s at refl)
 unfound_ends holds Absent k = refl
 unfound_ends holds CodeOutOfRange k = refl
 unfound_ends holds TooFewWords k = refl
