@@ -1,6 +1,6 @@
 -- A text of a list has the lines of its pairs, none of them faulty, and a text without a faulty line is the text of its pairs; since a number has one
 -- form in decimal, there is one text for a list.
-use Prim.Native.Nat.{ℕ, zero, suc, ◌+◌, ◌<◌, ◌≤◌}
+use Prim.Native.Nat.{ℕ, zero, suc, ◌<◌, ◌≤◌}
 use mathlib.Core.Bool.{true}
 use mathlib.Core.List.{List, [], ◌∷◌, ◌++◌, append_assoc}
 use mathlib.Core.Path.{◌≡◌, refl, ap, sym, ◌∙◌}
