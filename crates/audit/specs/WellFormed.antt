@@ -1,5 +1,5 @@
 -- The well-formed tables (document 01, "Check"): none of 11 to 21 holds. In propositions, a field for each number.
-use Rattle.std.specs.Prelude.{ℕ, ◌+◌, ◌*◌, ◌-◌, ◌<◌, ◌≤◌, List, ◌↔◌, ◌≡◌, length}
+use Rattle.std.specs.Prelude.{ℕ, ◌+◌, ◌*◌, ◌<◌, ◌≤◌, List, ◌↔◌, ◌≡◌, length}
 use Rattle.table.specs.Words.{code_count, cell_count, multiplier, total, block_start, block_end, block_multiplier, cell_code, cell_schedule, block_of, own_cell}
 use Rattle.audit.specs.Check.{codes_in, block_codes, all_codes}
 
