@@ -54,7 +54,7 @@ module _
           schedule_there = λ x l. (filled x l).schedule;
           empty_cell = λ i l nobody.
               elim (filled_or_empty prime_65537 codes schedules valid.codes_valid valid.parallel words t i (omega (arith, t.celled))) [
-                | inl r ↦ absurd (nobody r.0 r.1.in_List r.1.its_own)
+                | inl r ↦ absurd (nobody r.0 r.1.in_list r.1.its_own)
                 | inr e ↦ (e.no_code, e.no_schedule)
               ];
         }

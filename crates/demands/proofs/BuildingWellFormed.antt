@@ -85,14 +85,14 @@ module _
     code_below : (i : ℕ) → i < cell_count words → cell_code words i < p
     code_below i h =
         elim (cell i h) [
-          | inl r ↦ omega (arith, r.1.code, valid.codes_valid.below r.0 r.1.in_List)
+          | inl r ↦ omega (arith, r.1.code, valid.codes_valid.below r.0 r.1.in_list)
           | inr e ↦ omega (arith, e.no_code, prime.two_le)
         ]
 
     schedule_low : (i : ℕ) → i < cell_count words → cell_schedule words i ≤ 999
     schedule_low i h =
         elim (cell i h) [
-          | inl r ↦ omega (arith, r.1.schedule, valid.schedules_to_999 r.0 r.1.in_List)
+          | inl r ↦ omega (arith, r.1.schedule, valid.schedules_to_999 r.0 r.1.in_list)
           | inr e ↦ omega (arith, e.no_schedule)
         ]
 
@@ -100,8 +100,8 @@ module _
     both i h =
         elim (cell i h) [
           | inl r ↦ (
-            λ z. absurd (omega (arith, r.1.code, valid.codes_valid.positive r.0 r.1.in_List)),
-            λ z. absurd (omega (arith, r.1.schedule, valid.schedules_from_one r.0 r.1.in_List)),
+            λ z. absurd (omega (arith, r.1.code, valid.codes_valid.positive r.0 r.1.in_list)),
+            λ z. absurd (omega (arith, r.1.schedule, valid.schedules_from_one r.0 r.1.in_list)),
           )
           | inr e ↦ (λ z. e.no_schedule, λ z. e.no_code)
         ]
@@ -125,7 +125,7 @@ module _
         → block_start words (block_of p words (cell_code words i)) < block_end words (block_of p words (cell_code words i))
     has i h pos =
         elim (cell i h) [
-          | inl r ↦ rw r.1.code (listed_has r.0 r.1.in_List)
+          | inl r ↦ rw r.1.code (listed_has r.0 r.1.in_list)
           | inr e ↦ absurd (omega (arith, e.no_code))
         ]
 
