@@ -10,43 +10,37 @@ ghost use Rattle.prelude.specs.Limits.{most_pairs};
 
 use prelude::answers::{Numbered, NumberedFound, NumberedSize};
 
-#[unsafe(no_mangle)]
-pub extern "C" fn glass_build(codes: &[u32], schedules: &[u32], words: &mut [u32]) -> Numbered
+pub fn glass_build(codes: &[u32], schedules: &[u32], words: &mut [u32]) -> Numbered
     ensures { BuildShown 65537 most_pairs codes.now schedules.now words.old result words.new }
 {
     builder::numbered::numbered(builder::build::build(codes, schedules, words))
 }
 
-#[unsafe(no_mangle)]
-pub extern "C" fn glass_check(words: &[u32]) -> Numbered
+pub fn glass_check(words: &[u32]) -> Numbered
     ensures { Shown (check_of 65537 most_pairs words.now) result }
 {
     audit::numbered::numbered(audit::check::check(words))
 }
 
-#[unsafe(no_mangle)]
-pub extern "C" fn glass_lookup(words: &[u32], code: u32) -> NumberedFound
+pub fn glass_lookup(words: &[u32], code: u32) -> NumberedFound
     ensures { FoundShown (lookup_of 65537 most_pairs words.now code) result }
 {
     lookup::branch_free::lookup_numbered(words, code)
 }
 
-#[unsafe(no_mangle)]
-pub extern "C" fn glass_panel(words: &[u32], holds: &[u32], codes: &[u32]) -> NumberedFound
+pub fn glass_panel(words: &[u32], holds: &[u32], codes: &[u32]) -> NumberedFound
     ensures { FoundShown (panel_of 65537 most_pairs words.now holds.now codes.now) result }
 {
     panel::numbered::numbered(panel::panel(words, holds, codes))
 }
 
-#[unsafe(no_mangle)]
-pub extern "C" fn glass_pairs(words: &[u32], codes: &mut [u32], schedules: &mut [u32]) -> Numbered
+pub fn glass_pairs(words: &[u32], codes: &mut [u32], schedules: &mut [u32]) -> Numbered
     ensures { PairsShown 65537 most_pairs words.now codes.old schedules.old result codes.new schedules.new }
 {
     reader::numbered::numbered(reader::pairs::pairs(words, codes, schedules))
 }
 
-#[unsafe(no_mangle)]
-pub extern "C" fn glass_insert(
+pub fn glass_insert(
     words: &[u32],
     code: u32,
     schedule: u32,
@@ -57,15 +51,13 @@ pub extern "C" fn glass_insert(
     editor::numbered::numbered(editor::edit::insert(words, code, schedule, second))
 }
 
-#[unsafe(no_mangle)]
-pub extern "C" fn glass_remove(words: &[u32], code: u32, second: &mut [u32]) -> Numbered
+pub fn glass_remove(words: &[u32], code: u32, second: &mut [u32]) -> Numbered
     ensures { RemoveShown 65537 most_pairs words.now code second.old result second.new }
 {
     editor::numbered::numbered(editor::edit::remove(words, code, second))
 }
 
-#[unsafe(no_mangle)]
-pub extern "C" fn glass_read_list(
+pub fn glass_read_list(
     text: &[u8],
     codes: &mut [u32],
     schedules: &mut [u32],
@@ -75,8 +67,7 @@ pub extern "C" fn glass_read_list(
     suppliers::numbered::numbered_read(suppliers::read::read_list(text, codes, schedules))
 }
 
-#[unsafe(no_mangle)]
-pub extern "C" fn glass_write_list(
+pub fn glass_write_list(
     codes: &[u32],
     schedules: &[u32],
     text: &mut [u8],
@@ -86,8 +77,7 @@ pub extern "C" fn glass_write_list(
     suppliers::numbered::numbered_written(suppliers::write::write_list(codes, schedules, text))
 }
 
-#[unsafe(no_mangle)]
-pub extern "C" fn glass_generate(
+pub fn glass_generate(
     length: usize,
     codes: &mut [u32],
     schedules: &mut [u32],

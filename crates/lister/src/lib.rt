@@ -7,7 +7,7 @@ ghost use Rattle.prelude.specs.Limits.{most_pairs};
 ghost use Rattle.listing.specs.Listing.{FileListed};
 ghost use Rattle.lister.specs.Input.{InputListed};
 
-use libc::STDIN_FILENO;
+const STANDARD_INPUT: i32 = 0;
 
 // How many bytes were read, and how many bytes the text takes.
 #[derive(Clone, Copy)]
@@ -16,12 +16,11 @@ pub struct Lengths {
     pub listed: usize,
 }
 
-// One read of standard input: how many bytes it put at the start of the lent ones; none where the input has ended or the read failed.
+// A piece of standard input: how many bytes were put at the start of the lent ones; none where the input has ended or a read failed.
 fn read_piece(bytes: &mut [u8]) -> usize
     ensures { IsPrefixLen result bytes.new }
 {
-    let got = libc::read(STDIN_FILENO, bytes);
-    io::count(got, bytes)
+    io::read_full(STANDARD_INPUT, bytes)
 }
 
 // Reads standard input until the lent bytes are full or it ends, each piece into its own place, so that no byte is copied. Answers how many were read.
@@ -49,7 +48,7 @@ fn list_first(bytes: &[u8], n: usize, text: &mut [u8; 65536]) -> usize
 
 // Reads standard input into the first lent bytes and writes its listing into the first bytes of the text; those after it are kept. One byte
 // more is read than a file may have, whatever the pieces it comes in. Which bytes are read, and what the lent ones after them are, is left
-// open: `libc::read` promises their number alone.
+// open: `io::read_full` promises their number alone.
 pub fn list_input(bytes: &mut [u8; 65537], text: &mut [u8; 65536]) -> Lengths
     ensures { InputListed text.old result bytes.new text.new }
 {
