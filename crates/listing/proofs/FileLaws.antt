@@ -27,9 +27,6 @@ use Rattle.audit.specs.declared.check.Checked.TheVariants.{Accepted, TooFewWords
 use Rattle.reader.specs.ReadBack.{read_of}
 use Rattle.reader.specs.declared.pairs.ReadBack.{ReadBack}
 use Rattle.reader.specs.declared.pairs.ReadBack.TheVariants.{Pairs, TooFewPlaces, Refused}
-use Rattle.reader.specs.contracts.pairs.ReadBack.{the_type}
-use denote.Enum.Declared.{tag_of}
-use types.Run.{OneOf, miss}
 use Rattle.files.specs.Bytes.{words_of}
 use Rattle.listing.specs.Listing.{table_text, file_of, text_of, listing_of}
 use Rattle.lines.specs.Lines.{refused_line}
@@ -146,7 +143,7 @@ one_value (Misplaced i) e = cc
 one_value (NotSquare j) e = cc
 one_value (WrongCount codes) e = cc
 
-pub no_pairs : (read : ReadBack) → OneOf (1 ∷ 2 ∷ []) (tag_of the_type read) → (n : ℕ) → read_of read ≡ given (n ∷ []) → ⊥
-no_pairs (Pairs m) k n e = absurd (miss (1 ∷ 2 ∷ []) 0 tt k)
+pub no_pairs : (read : ReadBack) → ((n : ℕ) → read ≡ Pairs n → ⊥) → (n : ℕ) → read_of read ≡ given (n ∷ []) → ⊥
+no_pairs (Pairs m) k n e = k m refl
 no_pairs (TooFewPlaces m) k n e = let z : ◌≡◌ {A = ℕ} 0 1 = cc in omega arith
 no_pairs (Refused checked) k n e = let z = one_value checked e in omega arith
