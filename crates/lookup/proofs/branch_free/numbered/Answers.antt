@@ -1,7 +1,7 @@
 -- `lookup::branch_free::numbered` meets its contract: of each of the three kinds of word the halves are the number and the value, and only a schedule is over 0.
 use Prim.Native.Nat.{ℕ, ◌/◌, ◌%◌}
 use mathlib.Core.Logic.{inl, inr}
-use mathlib.Core.Path.{◌≡◌, refl, ◌∙◌}
+use mathlib.Core.Path.{◌≡◌, refl}
 use native.Mathlib.Omega.{arith}
 use borrow.Author.Tests.{eqb-true, eq-eqb, ne_eqb}
 use lib.Dec.{eqb}
@@ -9,7 +9,7 @@ use Rattle.hash.proofs.Indicators.{true_or_false}
 use Rattle.lookup.specs.code.OneWord.{word_answer}
 use Rattle.prelude.specs.Numbers.{number_of, found_value_of, found_cell_of}
 use Rattle.lookup.proofs.branch_free.numbered.Goals as goal
-use Rattle.lookup.proofs.branch_free.numbered.Goals.{then-number-eq0, else-number-eq0}
+use Rattle.std.proofs.Common.{rules}
 
 module _ (word cell : ℕ) where
   halves_shown : (word % 4294967296 ≡ number_of (word_answer word cell)) × (word / 4294967296 ≡ found_value_of (word_answer word cell))
@@ -39,9 +39,5 @@ returns c =
     record {
       number_shown = (halves_shown _ _).0;
       value_shown = (halves_shown _ _).1;
-      cell_shown =
-          elim c.if-number-eq0.branch [
-            | then-number-eq0 w ↦ w.cell-is ∙ cell_shown _ _ w.if-number-eq0.true
-            | else-number-eq0 w ↦ w.cell-is ∙ no_cell _ _ w.if-number-eq0.false
-          ];
+      cell_shown = search (rules, cell_shown, no_cell);
     }
