@@ -2,12 +2,13 @@
 use Rattle.lists.specs.List.{bad_code, bad_schedule}
 use Rattle.lists.proofs.Refusals.{passes, lengths_differ, too_many_pairs, bad_code_lem, bad_schedule_lem, repeated_code, none_holds}
 use Rattle.lists.proofs.list.validate.Goals as goal
+use Rattle.std.proofs.Common.{rules}
 
 pub returns-then-n-schedules : goal.returns-then-n-schedules
 returns-then-n-schedules c = lengths_differ _ _ _ _ _ c.if-n-schedules.true
 
 pub returns-then-limit-n : goal.returns-then-limit-n
-returns-then-limit-n c = too_many_pairs _ _ _ _ _ c.if-n-schedules.false c.if-limit-n.true
+returns-then-limit-n c = search (rules, too_many_pairs)
 
 pub returns-then-code-n : goal.returns-then-code-n
 unfolding bad_code
