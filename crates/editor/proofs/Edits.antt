@@ -1,6 +1,6 @@
 -- An edit of a well-formed table. How many pairs have other codes tells whether the table has the code, and so of 53 and 55; the changed list can be
 -- built from: its codes are different and in range, and not too many.
-use Prim.Native.Nat.{ℕ, suc, ◌<◌, ◌≤◌}
+use Prim.Native.Nat.{ℕ, suc, ◌≤◌}
 use native.Mathlib.Decide.{dec_lt}
 use native.Mathlib.Omega.{arith}
 use mathlib.Core.Bool.{true, not, ◌&&◌, or-true}
@@ -57,7 +57,7 @@ rebuilding {p} xs {second} b e =
 mem_among : {a : ℕ} (s : List ℕ) → Memᴰ a s → among a s ≡ true
 unfolding among
 mem_among [] m = absurd (Memᴰ.not-nil m)
-mem_among {a} (x ∷ s) m = ⊎_elim (λ e. rw (eq-eqb a x e)) (λ t. rw (mem_among s t) (or-true (eqb a x))) (Memᴰ.cases_cons m)
+mem_among {a} (x ∷ s) m = ⊎_elim (λ e. rw (eq-eqb a x e)) (λ t. rw (mem_among {a = a} s t) (or-true (eqb a x))) (Memᴰ.cases_cons m)
 
 module _ {p limit : ℕ} {words : List ℕ} (f : WellFormed p limit words) (code : ℕ) where
   -- how many pairs have other codes
