@@ -2,11 +2,9 @@
 use Prim.Native.Nat.{ℕ, ◌*◌, ◌/◌, ◌≤◌}
 use mathlib.Core.List.{List, [], ◌∷◌, ◌++◌}
 use mathlib.Core.Logic.{⊎_elim}
-use mathlib.Core.Path.{◌≡◌, sym, ◌∙◌}
+use mathlib.Core.Path.{refl, ◌≡◌, sym, ◌∙◌}
 use native.Mathlib.Omega.{arith}
 use borrow.Author.Tests.{ltb-false}
-use denote.Enum.Declared.{tag_of}
-use types.Run.{OneOf, miss}
 use lib.Dec.{ltb}
 use lib.ListN.{length, take}
 use lib.Seq.{take_at, take_all}
@@ -24,7 +22,6 @@ use Rattle.builder.specs.Build.{build_of, built_words, Built}
 use Rattle.builder.specs.Built.{built_of}
 use Rattle.builder.specs.declared.build.BuildAnswer.{BuildAnswer}
 use Rattle.builder.specs.declared.build.BuildAnswer.TheVariants as Case
-use Rattle.builder.specs.contracts.build.BuildAnswer.{the_type}
 use Rattle.decimal.specs.code.Added.{Added}
 use Rattle.files.specs.Bytes.{bytes_of, BytesFilled}
 use Rattle.files.proofs.ByteLaws.{bytes_length}
@@ -58,8 +55,8 @@ one_value (Listed.BadCode i) e = cc
 one_value (Listed.BadSchedule i) e = cc
 one_value (Listed.Repeated i) e = cc
 
-pub none_built : (built : BuildAnswer) → OneOf (1 ∷ 2 ∷ []) (tag_of the_type built) → (n : ℕ) → built_of built ≡ given (n ∷ []) → ⊥
-none_built (Case.Built total) k n e = absurd (miss (1 ∷ 2 ∷ []) 0 tt k)
+pub none_built : (built : BuildAnswer) → ((total : ℕ) → built ≡ Case.Built total → ⊥) → (n : ℕ) → built_of built ≡ given (n ∷ []) → ⊥
+none_built (Case.Built total) k n e = k total refl
 none_built (Case.TooShort total) k n e = let z : ◌≡◌ {A = ℕ} 0 1 = cc in omega arith
 none_built (Case.Refused listed) k n e = let z = one_value listed e in omega arith
 

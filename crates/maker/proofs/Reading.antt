@@ -5,8 +5,6 @@ use mathlib.Core.List.{List, [], ◌∷◌}
 use mathlib.Core.Logic.{inl, inr}
 use mathlib.Core.Path.{◌≡◌, refl, sym, ◌∙◌}
 use native.Mathlib.Omega.{arith}
-use denote.Enum.Declared.{tag_of}
-use types.Run.{OneOf, miss}
 use lib.Dec.{eqb, ltb}
 use lib.ListN.{length, take, length-map}
 use Rattle.hash.proofs.Indicators.{true_or_false}
@@ -21,7 +19,6 @@ use Rattle.suppliers.specs.Answered.{text_read_of}
 use Rattle.suppliers.specs.declared.read.TextRead.{TextRead}
 use Rattle.suppliers.specs.declared.read.TextRead.TheVariants.{Pairs, FaultyLine, TooManyLines}
 use Rattle.suppliers.proofs.ReadLaws.{read_room, read_count, codes_read_lem, schedules_read_lem}
-use Rattle.suppliers.specs.contracts.read.TextRead.{the_type}
 
 -- ---- its answers
 
@@ -62,8 +59,8 @@ module _ (text : List ℕ) (codes schedules : ℕ) where
       ]
 
 -- every case but the first is a refusal
-pub read_refuses : (read : TextRead) → OneOf (1 ∷ 2 ∷ []) (tag_of the_type read) → (number : ℕ) × (value : ℕ) × (text_read_of read ≡ refused number value)
-read_refuses (Pairs n) k = absurd (miss (1 ∷ 2 ∷ []) 0 tt k)
+pub read_refuses : (read : TextRead) → ((n : ℕ) → read ≡ Pairs n → ⊥) → (number : ℕ) × (value : ℕ) × (text_read_of read ≡ refused number value)
+read_refuses (Pairs n) k = absurd (k n refl)
 read_refuses (FaultyLine line) k = (71, line, refl)
 read_refuses (TooManyLines lines) k = (72, lines, refl)
 
