@@ -15,7 +15,8 @@ for name; do
         (cd "crates/$crate" && rt run <"$input" >/dev/null)
         cp "crates/$crate/out/$crate" "target/bin/$name"
     else
-        (cd "crates/$crate" && rt lib >&2)
+        # for any x86-64
+        (cd "crates/$crate" && rt lib --cpu x86-64 >&2)
         cp "crates/$crate/out/lib$crate.a" "target/staticlib/lib$name.a"
     fi
 done
