@@ -40,12 +40,7 @@ pub fn glass_pairs(words: &[u32], codes: &mut [u32], schedules: &mut [u32]) -> N
     reader::numbered::numbered(reader::pairs::pairs(words, codes, schedules))
 }
 
-pub fn glass_insert(
-    words: &[u32],
-    code: u32,
-    schedule: u32,
-    second: &mut [u32],
-) -> Numbered
+pub fn glass_insert(words: &[u32], code: u32, schedule: u32, second: &mut [u32]) -> Numbered
     ensures { InsertShown 65537 most_pairs words.now code schedule second.old result second.new }
 {
     editor::numbered::numbered(editor::edit::insert(words, code, schedule, second))
@@ -57,31 +52,19 @@ pub fn glass_remove(words: &[u32], code: u32, second: &mut [u32]) -> Numbered
     editor::numbered::numbered(editor::edit::remove(words, code, second))
 }
 
-pub fn glass_read_list(
-    text: &[u8],
-    codes: &mut [u32],
-    schedules: &mut [u32],
-) -> NumberedSize
+pub fn glass_read_list(text: &[u8], codes: &mut [u32], schedules: &mut [u32]) -> NumberedSize
     ensures { ReadListShown text.now codes.old schedules.old result codes.new schedules.new }
 {
     suppliers::numbered::numbered_read(suppliers::read::read_list(text, codes, schedules))
 }
 
-pub fn glass_write_list(
-    codes: &[u32],
-    schedules: &[u32],
-    text: &mut [u8],
-) -> NumberedSize
+pub fn glass_write_list(codes: &[u32], schedules: &[u32], text: &mut [u8]) -> NumberedSize
     ensures { WriteListShown most_pairs codes.now schedules.now text.old result text.new }
 {
     suppliers::numbered::numbered_written(suppliers::write::write_list(codes, schedules, text))
 }
 
-pub fn glass_generate(
-    length: usize,
-    codes: &mut [u32],
-    schedules: &mut [u32],
-) -> Numbered
+pub fn glass_generate(length: usize, codes: &mut [u32], schedules: &mut [u32]) -> Numbered
     ensures { GenerateShown most_pairs length codes.old schedules.old result codes.new schedules.new }
 {
     generator::numbered::numbered(generator::generate(length, codes, schedules))
