@@ -2,6 +2,7 @@
 #![tactic(auto)]
 
 const STANDARD_INPUT: i32 = 0;
+
 const STANDARD_OUTPUT: i32 = 1;
 
 fn main() {
