@@ -16,26 +16,12 @@ pub struct Lengths {
     pub listed: usize,
 }
 
-// A piece of standard input: how many bytes were put at the start of the lent ones; none where the input has ended or a read failed.
-fn read_piece(bytes: &mut [u8]) -> usize
-    ensures { IsPrefixLen result bytes.new }
-{
-    io::read_full(STANDARD_INPUT, bytes)
-}
-
-// Reads standard input until the lent bytes are full or it ends, each piece into its own place, so that no byte is copied. Answers how many were read.
+// Reads standard input into the lent bytes until they are full, it ends or a read fails: each piece into its own place, so that no byte is copied. Answers how
+// many were read.
 fn read_input(bytes: &mut [u8]) -> usize
     ensures { IsPrefixLen result bytes.new }
 {
-    let mut done: usize = 0;
-    while done < bytes.len() {
-        let piece = read_piece(&mut bytes[done..]);
-        if piece == 0 {
-            return done;
-        }
-        done = done + piece;
-    }
-    done
+    io::read_full(STANDARD_INPUT, bytes)
 }
 
 // Writes the listing of the first n bytes.
