@@ -1,6 +1,6 @@
 -- The answers of every operation, and the tests that lead to them (document 01, "What the controller has").
 -- Refusals are tested in the order written: one stands below the other, and each test is over all pairs, blocks or cells.
-use Rattle.std.specs.Prelude.{ℕ, zero, suc, Bool, cond, ◌||◌, List, [], ◌∷◌, ◌++◌, ltb, length, drop}
+use Rattle.std.specs.Prelude.{ℕ, zero, suc, Bool, cond, ◌||◌, List, [], ◌∷◌, ◌++◌, ltb, length, drop, Option, Some, None, Result, Ok, Err}
 
 -- an answer in the paper's numbers
 pub data Answer : Type 0 where
@@ -12,6 +12,11 @@ pub data Answer : Type 0 where
   unknown : ℕ → Answer
   -- a refusal: its number, and what comes with it
   refused : ℕ → ℕ → Answer
+
+-- the answer of a call: its value, or its error as an answer
+abbrev pub answer_of : {E : Type 0} → (E → Answer) → Result ℕ E → Answer
+answer_of error (Ok value) = given (value ∷ [])
+answer_of error (Err e) = error e
 
 -- refused by a test that holds, otherwise what follows
 abbrev pub refuse : Bool → ℕ → ℕ → Answer → Answer
@@ -25,6 +30,10 @@ first_of (suc n) test = let first = first_of n test in cond (ltb first n) first 
 -- the test holds of some number below n
 abbrev pub some : ℕ → (ℕ → Bool) → Bool
 some n test = ltb (first_of n test) n
+
+-- the first of them, where there is one
+abbrev pub first_where : ℕ → (ℕ → Bool) → Option ℕ
+first_where n test = cond (some n test) (Some (first_of n test)) None
 
 -- refused with the first of 0 to n - 1 of which the test holds, otherwise what follows
 abbrev pub refuse_first : ℕ → (ℕ → Bool) → ℕ → Answer → Answer
