@@ -2,6 +2,7 @@
 pub mod Laws
 pub mod Fills
 pub mod First
+pub mod Where
 pub mod Some
 pub mod Refusals
 -- Lists by their function.
