@@ -31,10 +31,8 @@ pub fn some_outside(low: u32, high: u32, list: &[u32]) -> bool
     ensures { result ≡ some (length list.now) (λ i. outside low high (get_or list.now i 0)) }
 {
     let mut bad = false;
-    let mut i = 0;
-    while i < list.len() {
-        bad = bad | outside(low, high, list[i]);
-        i += 1;
+    for &x in list {
+        bad = bad | outside(low, high, x);
     }
     bad
 }
