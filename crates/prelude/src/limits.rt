@@ -1,4 +1,7 @@
 // The limit on pairs, and the room of local arrays: each is said here alone (specs/Limits.antt).
+ghost use Rattle.std.specs.Prelude.{◌≤◌, ◌≡◌, ◌-◌};
+ghost use Rattle.hash.specs.Theorems.{Prime};
+ghost use Rattle.prelude.specs.Limits.{most_pairs, room};
 
 // The most pairs of a list, and codes of a table.
 pub const MOST_PAIRS: u32 = 2048;
@@ -9,3 +12,31 @@ pub const ROOM: usize = 2048;
 // The places of the local arrays of few pairs, of a short list or of a block, which has at most 78 codes: 79 * 79 is above 3 * ROOM. A local array is set
 // to 0 whole, which would take longer than the rest of a short list.
 pub const FEW: usize = 128;
+
+// What a table is built with: its prime, and the most codes that it may have, for which local arrays have room.
+#[derive(Clone, Copy)]
+pub struct Format {
+    pub prime: u32,
+    pub limit: u32,
+    ghost is_prime: { Prime prime },
+    ghost fits: { limit ≤ room },
+}
+
+impl Format {
+    // That of document 01.
+    pub fn product() -> Format
+        ensures { (result.prime ≡ 65537) × (result.limit ≡ most_pairs) }
+    {
+        Format {
+            prime: 65537,
+            limit: MOST_PAIRS,
+        }
+    }
+
+    // The largest code.
+    pub fn largest_code(self) -> u32
+        ensures { result ≡ self.prime - 1 }
+    {
+        self.prime - 1
+    }
+}
