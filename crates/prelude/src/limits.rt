@@ -1,5 +1,5 @@
 // The limit on pairs, and the room of local arrays: each is said here alone (specs/Limits.antt).
-ghost use Rattle.std.specs.Prelude.{◌≤◌, ◌≡◌, ◌-◌};
+ghost use Rattle.std.specs.Prelude.{◌≤◌, ◌≡◌};
 ghost use Rattle.hash.specs.Theorems.{Prime};
 ghost use Rattle.prelude.specs.Limits.{most_pairs, room};
 
@@ -31,12 +31,5 @@ impl Format {
             prime: 65537,
             limit: MOST_PAIRS,
         }
-    }
-
-    // The largest code.
-    pub fn largest_code(self) -> u32
-        ensures { result ≡ self.prime - 1 }
-    {
-        self.prime - 1
     }
 }
