@@ -3,15 +3,26 @@ use Prim.Native.Nat.{ℕ, ◌+◌, ◌*◌, ◌-◌, ◌/◌, ◌%◌, ◌<◌, 
 use native.Mathlib.Decide.{ℕ_discrete, dec_le}
 use native.Mathlib.Nat.{le_refl, mod-lt, mod_self, mod-eq_of_lt, div-add-mod', mul-le-mul_right}
 use native.Mathlib.Omega.{arith}
-use mathlib.Core.Bool.{true, false}
+use mathlib.Core.Bool.{true, false, cond}
 use mathlib.Core.Logic.{◌⊎◌, inl, inr}
-use mathlib.Core.Path.{◌≡◌, ap, ◌∙◌}
+use mathlib.Core.Path.{◌≡◌, ap, ap₂, ◌∙◌}
 use borrow.Author.Tests.{leb-true, leb-false, ltb-true, ltb-false, le-leb, lt-leb}
 use lib.Dec.{leb, ltb}
 use Rattle.hash.specs.Hash.{hash_of}
 use Rattle.hash.proofs.Indicators.{true_or_false}
 use Rattle.hash.proofs.Primes.{mod_same}
-use Rattle.jumps.specs.code.Jumps.{straight, once, turn, wrapped}
+use Rattle.jumps.specs.code.Jumps.{straight, once, wraps_at_most, turn, wrapped}
+
+-- straight on, and wrapping at most once, in one
+pub straight_is : (p reach r s : ℕ) → wraps_at_most 0 p reach r s ≡ straight p reach r s
+unfolding straight wraps_at_most
+straight_is p reach r s =
+    ap₂ (λ (x y : ℕ). cond (leb s (p - s)) (ltb (r + reach * s) x) (leb (reach * (p - s)) y)) (omega arith) (omega arith)
+
+pub once_is : (p reach r s : ℕ) → wraps_at_most 1 p reach r s ≡ once p reach r s
+unfolding once wraps_at_most
+once_is p reach r s =
+    ap₂ (λ (x y : ℕ). cond (leb s (p - s)) (ltb (r + reach * s) x) (leb (reach * (p - s)) y)) (omega arith) (omega arith)
 
 module _ (p k g a j : ℕ) where
   -- the product for the multiplier j steps on

@@ -5,17 +5,17 @@ use native.Mathlib.Nat.{le_refl, mul-le-mul, add-sub_of_le}
 use native.Mathlib.Omega.{arith}
 use mathlib.Core.Bool.{cond}
 use mathlib.Core.List.{List, [], ◌∷◌}
-use mathlib.Core.Path.{◌≡◌, refl, sym, ap}
+use mathlib.Core.Path.{◌≡◌, refl, sym, ap, ◌∙◌}
 use borrow.Author.Tests.{lt-ltb, le-ltb}
 use lib.Dec.{eqb, ltb}
 use lib.ListN.{length, get_or, drop}
-use lib.Seq.{drop-length}
+use Rattle.std.specs.Prelude.{map, sum, sum_by}
+use Rattle.std.proofs.lemmas.List.Sums.{sum-map, sum_by-cons}
 use Rattle.hash.specs.Hash.{hash_of, load, together}
 use Rattle.hash.proofs.Counting.{sum_load, sum_squares}
 use Rattle.hash.proofs.Indicators.{indicator, indicator_le, indicator_eq, indicator_ne, indicator_sym}
 use Rattle.hash.proofs.Sums.{sum_mono, sum_add, sum_const, sum_times}
 use Rattle.jumps.specs.code.Jumps.{equals, equal_pairs}
-use Rattle.jumps.proofs.Ends.{drop_before}
 
 -- equal numbers, beside codes that are in one place where their numbers are equal
 module _ (p k w : ℕ) where
@@ -221,20 +221,21 @@ crowd p k w t s pos =
       sum_squares p k w pos s,
     )
 
--- ---- equal numbers, from the last on
+-- ---- equal numbers
 
 pub equals_le : (x : ℕ) (s : List ℕ) → equals x s ≤ length s
 unfolding equals
 equals_le x [] = omega arith
 equals_le x (y ∷ s) = omega (arith, indicator_le (eqb y x), equals_le x s)
 
-pub equals_none : (x : ℕ) (s : List ℕ) → equals x (drop (length s) s) ≡ 0
+-- as a sum of tests
+equals_sum_by : (x : ℕ) (s : List ℕ) → sum_by (λ y. cond (eqb y x) 1 0) s ≡ equals x s
 unfolding equals
-equals_none x s = rw (drop-length s) refl
+equals_sum_by x [] = refl
+equals_sum_by x (y ∷ s) = sum_by-cons (λ y. cond (eqb y x) 1 0) y s ∙ ap (λ (n : ℕ). cond (eqb y x) 1 0 + n) (equals_sum_by x s)
 
-pub equals_more : (x : ℕ) (s : List ℕ) (i : ℕ) → 0 < i → i ≤ length s → equals x (drop (i - 1) s) ≡ indicator (eqb (get_or s (i - 1) 0) x) + equals x (drop i s)
-unfolding equals
-equals_more x s i pos le = rw (drop_before s i pos le) refl
+pub equals_sum : (x : ℕ) (s : List ℕ) → sum (map (λ y. cond (eqb y x) 1 0) s) ≡ equals x s
+equals_sum x s = sum-map (λ y. cond (eqb y x) 1 0) s ∙ equals_sum_by x s
 
 pub pairs_drop : (s : List ℕ) (i : ℕ) → equal_pairs (drop i s) ≤ equal_pairs s
 unfolding equal_pairs

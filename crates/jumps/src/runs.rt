@@ -1,14 +1,13 @@
 // Multipliers that fail for a common reason are passed over together. Two codes in one place whose residues move by the same amount modulo the places stay
 // together until one of them wraps; so where more pairs stay together than may, every multiplier up to there fails. A code that wraps once is together with some
 // of the others before its wrap and with some after it, and counts by the fewer of them. How far a jump goes is left open: whatever it passes over fails.
-ghost use Rattle.std.specs.Prelude.{min, ◌+◌, ◌*◌, ◌<◌, ◌≤◌, cond, ◌≡◌, leb, ltb, length, drop};
+ghost use Rattle.std.specs.Prelude.{◌+◌, ◌*◌, ◌<◌, ◌≤◌, cond, ◌≡◌, leb, ltb, length};
 ghost use Rattle.hash.specs.Hash.{Codes};
 ghost use Rattle.prelude.specs.Limits.{few, room};
-ghost use Rattle.jumps.specs.code.Jumps.{equals, equal_pairs, straight, once, turn, wrapped, key_of, keys_of, company_of, companies, Runs, Ends, Fail, Passed};
+ghost use Rattle.jumps.specs.code.Jumps.{equals, equal_pairs, wraps_at_most, turn, wrapped, key_of, keys_of, company_of, companies, Runs, Ends, Fail, Passed};
 
-use crate::starts::{smaller, start};
+use crate::starts::start;
 use prelude::limits::FEW;
-use prelude::numbers::{larger, one};
 
 // The multipliers before this one are tried one by one: nearly every list has one of them.
 const PLAIN: u32 = 64;
@@ -27,42 +26,25 @@ pub struct Run {
     pub reach: u32,
 }
 
-// How many numbers of a list, from index i on, are x. All are compared, branch-free.
-fn equals(list: &[u32], i: usize, x: u32) -> u32
-    requires { (i ≤ length list.now) × (length list.now ≤ few) }
-    ensures { result ≡ equals x (drop i list.now) }
+// How many numbers of a list are x. All are compared, branch-free.
+fn equals(list: &[u32], x: u32) -> u32
+    requires { length list.now ≤ few }
+    ensures { result ≡ equals x list.now }
 {
-    let mut count: u32 = 0;
-    let mut j = list.len();
-    while i < j {
-        j -= 1;
-        count += one(list[j] == x);
-    }
-    count
+    list.iter().map(|&y| u32::from(y == x)).sum()
 }
 
-// Whether the residue r goes straight on up to `reach` steps s.
-fn is_straight(p: u32, reach: u32, r: u32, s: u32) -> bool
+// Whether the residue r wraps at most so many times up to `reach` steps s. With none it goes straight on.
+fn wraps_at_most(wraps: u32, p: u32, reach: u32, r: u32, s: u32) -> bool
     requires { s < p }
-    ensures { result ≡ straight p reach r s }
+    ensures { result ≡ wraps_at_most wraps p reach r s }
 {
+    let over = u64::from(wraps) * u64::from(p);
     let down = p - s;
     if s <= down {
-        return (r as u64) + (reach as u64) * (s as u64) < (p as u64);
+        return u64::from(r) + u64::from(reach) * u64::from(s) < over + u64::from(p);
     }
-    (reach as u64) * (down as u64) <= (r as u64)
-}
-
-// Whether it wraps at most once.
-fn is_once(p: u32, reach: u32, r: u32, s: u32) -> bool
-    requires { s < p }
-    ensures { result ≡ once p reach r s }
-{
-    let down = p - s;
-    if s <= down {
-        return (r as u64) + (reach as u64) * (s as u64) < 2 * (p as u64);
-    }
-    (reach as u64) * (down as u64) <= (p as u64) + (r as u64)
+    u64::from(reach) * u64::from(down) <= over + u64::from(r)
 }
 
 // How far a step s moves the place.
@@ -97,7 +79,7 @@ fn key(run: Run, i: u32, a: u32) -> u32
 {
     let r = hash::residue(run.prime, run.first, a);
     let s = hash::residue(run.prime, run.step, a);
-    if !is_straight(run.prime, run.reach, r, s) {
+    if !wraps_at_most(0, run.prime, run.reach, r, s) {
         return 2147483648 + i;
     }
     let place = r % run.places * 65536;
@@ -113,10 +95,8 @@ fn fill_keys(run: Run, codes: &[u32], keys: &mut [u32])
     requires keys_len { length keys.old ≡ length codes.now }
     ensures { keys.new ≡ keys_of run codes.now }
 {
-    let mut i = 0;
-    while i < codes.len() {
-        keys[i] = key(run, i as u32, codes[i]);
-        i += 1;
+    for (i, &a) in codes.iter().enumerate() {
+        keys[i] = key(run, i as u32, a);
     }
 }
 
@@ -131,16 +111,16 @@ fn company(run: Run, keys: &[u32], own: u32, a: u32) -> u32
     }
     let r = hash::residue(run.prime, run.first, a);
     let s = hash::residue(run.prime, run.step, a);
-    if !is_once(run.prime, run.reach, r, s) {
+    if !wraps_at_most(1, run.prime, run.reach, r, s) {
         return 0;
     }
     let by = turn(run.prime, run.places, s);
-    let before = equals(keys, 0, r % run.places * 65536 + by);
+    let before = equals(keys, r % run.places * 65536 + by);
     if before == 0 {
         return 0;
     }
-    let later = equals(keys, 0, wrapped(run.prime, run.places, r, s) * 65536 + by);
-    smaller(before, later)
+    let later = equals(keys, wrapped(run.prime, run.places, r, s) * 65536 + by);
+    before.min(later)
 }
 
 // Whether more pairs of codes than may are together at each multiplier of a run: those with equal keys, and those of a code that wraps once. Left early.
@@ -150,14 +130,12 @@ fn too_many(run: Run, codes: &[u32], keys: &[u32]) -> bool
     ensures { result ≡ ltb run.most (equal_pairs keys.now + companies run keys.now keys.now codes.now) }
 {
     let mut pairs: u32 = 0;
-    let mut i = keys.len();
-    while 0 < i {
-        let own = keys[i - 1];
-        pairs += equals(keys, i, own) + company(run, keys, own, codes[i - 1]);
+    for i in (0..keys.len()).rev() {
+        let own = keys[i];
+        pairs += equals(&keys[i + 1..], own) + company(run, keys, own, codes[i]);
         if run.most < pairs {
             return true;
         }
-        i -= 1;
     }
     false
 }
@@ -170,14 +148,7 @@ fn failing(run: Run, codes: &[u32], keys: &mut [u32]) -> u32
 {
     let mut reach = run.reach;
     loop {
-        let shorter = Run {
-            prime: run.prime,
-            places: run.places,
-            most: run.most,
-            step: run.step,
-            first: run.first,
-            reach,
-        };
+        let shorter = Run { reach, ..run };
         fill_keys(shorter, codes, keys);
         if too_many(shorter, codes, keys) {
             return reach + 1;
@@ -206,12 +177,9 @@ fn walk(run: Run, last: u32, codes: &[u32], keys: &mut [u32]) -> Walked
     let mut guess = last;
     while done <= run.reach {
         let rest = Run {
-            prime: run.prime,
-            places: run.places,
-            most: run.most,
-            step: run.step,
             first: run.first + done * run.step,
-            reach: smaller(guess, run.reach - done),
+            reach: guess.min(run.reach - done),
+            ..run
         };
         let more = failing(rest, codes, keys);
         if more == 0 {
@@ -221,7 +189,7 @@ fn walk(run: Run, last: u32, codes: &[u32], keys: &mut [u32]) -> Walked
             };
         }
         done += more;
-        guess = more + smaller(more, 4294967295 - more);
+        guess = more.saturating_add(more);
     }
     Walked {
         failed: done,
@@ -249,24 +217,18 @@ fn stretch(run: Run, codes: &[u32], keys: &mut [u32]) -> u32
 {
     let mut found = run.reach + 1;
     let mut guess: u32 = 0;
-    let mut i: u32 = 0;
-    while i < run.step {
+    for i in 0..run.step {
         if found <= i {
             return found;
         }
-        let reach = (found - 1 - i) / run.step;
         let remainder = Run {
-            prime: run.prime,
-            places: run.places,
-            most: run.most,
-            step: run.step,
             first: run.first + i,
-            reach,
+            reach: (found - 1 - i) / run.step,
+            ..run
         };
         let walked = walk(remainder, guess, codes, keys);
         found = nearer(remainder, walked.failed, i, found);
         guess = walked.guess;
-        i += 1;
     }
     found
 }
@@ -298,20 +260,18 @@ fn measure(p: u32, step: u32, codes: &[u32]) -> Pace
 {
     let mut far: u32 = 0;
     let mut moves: u32 = 0;
-    let mut i = 0;
-    while i < codes.len() {
-        let s = hash::residue(p, step, codes[i]);
-        let by = smaller(s, p - s);
-        let is_far = one(p / 32 < by);
+    for &a in codes {
+        let s = hash::residue(p, step, a);
+        let by = s.min(p - s);
+        let is_far = u32::from(p / 32 < by);
         far += is_far;
-        moves = larger(moves, by * (1 - is_far));
-        i += 1;
+        moves = moves.max(by * (1 - is_far));
     }
     let lost = p / (8 * (codes.len() as u32) + 1);
     Pace {
         step,
         far,
-        score: (far as u64) * (lost as u64) + (moves as u64),
+        score: u64::from(far) * u64::from(lost) + u64::from(moves),
     }
 }
 
@@ -320,14 +280,12 @@ fn best_step(p: u32, most: u32, enough: u32, codes: &[u32]) -> Pace
     requires { Codes p codes.now × ((1 < p) × (length codes.now ≤ few)) }
     ensures { (0 < result.step) × ((result.step < p) × (result.step ≤ 4096)) }
 {
-    let last = smaller(smaller(STEPS, p - 1), most);
+    let last = STEPS.min(p - 1).min(most);
     let mut best = measure(p, 1, codes);
-    let mut step: u32 = 1;
-    while step < last {
-        if best.score <= (enough as u64) {
+    for step in 2..=last {
+        if best.score <= u64::from(enough) {
             return best;
         }
-        step += 1;
         best = calmer(best, measure(p, step, codes));
     }
     best
@@ -335,11 +293,11 @@ fn best_step(p: u32, most: u32, enough: u32, codes: &[u32]) -> Pace
 
 // Whether a step moves so many codes far that jumps would not pay: of n codes all but one where no pair may be together, and otherwise more than a quarter.
 fn is_restless(pace: Pace, n: u32, most: u32) -> bool {
-    let far = pace.far as u64;
+    let far = u64::from(pace.far);
     if most == 0 {
-        return (n as u64) < far + 2;
+        return u64::from(n) < far + 2;
     }
-    ((n / 4) as u64) < far
+    u64::from(n / 4) < far
 }
 
 // The first multiplier from `first` on that may pass, or the prime; or one before it from which on no step serves. Each stretch is as long as all before it,
@@ -353,19 +311,17 @@ fn pass_over(run: Run, codes: &[u32], keys: &mut [u32]) -> u32
     let mut k = run.first;
     while k < run.prime {
         // a stretch of k multipliers has some k × moves / p jumps: fewer than a thousand are not worth a better step
-        let enough = run.prime / larger(64, k / 1024);
+        let enough = run.prime / (k / 1024).max(64);
         let best = best_step(run.prime, k / 16, enough, codes);
         if is_restless(best, codes.len() as u32, run.most) {
             return k;
         }
-        let reach = smaller(k, run.prime - 1 - k);
+        let reach = k.min(run.prime - 1 - k);
         let next = Run {
-            prime: run.prime,
-            places: run.places,
-            most: run.most,
             step: best.step,
             first: k,
             reach,
+            ..run
         };
         let failed = stretch(next, codes, keys);
         k += failed;
@@ -428,7 +384,7 @@ pub fn after(p: u32, w: u32, most: u32, k: u32, codes: &[u32]) -> u32
         return next;
     }
     if next == PLAIN {
-        let from = larger(PLAIN, start(p, w, most, codes));
+        let from = start(p, w, most, codes).max(PLAIN);
         return skip(p, w, most, from, codes);
     }
     skip(p, w, most, next, codes)

@@ -1,22 +1,11 @@
 // The small multipliers that put codes into too few of w places are passed over at once. While k × (high - low) is small, the quotient (k × code) / p takes few
 // values. Codes with the same quotient share a place where they are equal modulo w, and codes with a common step e, a divisor of w, have only w / e remainders
 // modulo w. Many codes in few places make many pairs.
-ghost use Rattle.std.specs.Prelude.{min, ◌<◌, ◌≤◌, ◌≡◌, length};
+ghost use Rattle.std.specs.Prelude.{◌<◌, ◌≤◌, ◌≡◌, length};
 ghost use Rattle.hash.specs.Hash.{Codes};
 ghost use Rattle.prelude.specs.Limits.{room};
 ghost use Rattle.jumps.specs.code.Jumps.{Passed};
 ghost use Rattle.jumps.specs.code.Starts.{Between, Divisor, CommonStep, crowded, Quotients, Before};
-
-use prelude::numbers::larger;
-
-pub(crate) fn smaller(a: u32, b: u32) -> u32
-    ensures { result ≡ min a b }
-{
-    if b < a {
-        return b;
-    }
-    a
-}
 
 // The least and the largest code of a list.
 #[derive(Clone, Copy)]
@@ -31,11 +20,9 @@ fn extremes(codes: &[u32]) -> Spread
 {
     let mut low = codes[0];
     let mut high = codes[0];
-    let mut i = 1;
-    while i < codes.len() {
-        low = smaller(low, codes[i]);
-        high = larger(high, codes[i]);
-        i += 1;
+    for &a in codes {
+        low = low.min(a);
+        high = high.max(a);
     }
     Spread { low, high }
 }
@@ -61,13 +48,11 @@ fn common_step(w: u32, ends: Spread, codes: &[u32]) -> u32
     ensures { CommonStep w ends.low codes.now result }
 {
     let mut e = w;
-    let mut i = 0;
-    while i < codes.len() {
+    for &a in codes {
         if e == 1 {
             return 1;
         }
-        e = gcd(e, codes[i] - ends.low);
-        i += 1;
+        e = gcd(e, a - ends.low);
     }
     e
 }
@@ -87,6 +72,7 @@ fn quotients(n: u32, most: u32, remainders: u32) -> u32
     ensures { Quotients n most remainders result }
 {
     let mut b: u32 = 1;
+    // a range would need an end, which only the proof knows: more places than codes crowd none
     while crowds(n, most, remainders * (b + 1)) {
         b += 1;
     }
@@ -98,8 +84,8 @@ fn after(p: u32, times: u32, width: u32) -> u32
     requires { (0 < p) × ((0 < times) × (0 < width)) }
     ensures { Before p times width result }
 {
-    let first = ((times as u64) * (p as u64) - 1) / (width as u64) + 1;
-    if (p as u64) <= first {
+    let first = (u64::from(times) * u64::from(p) - 1) / u64::from(width) + 1;
+    if u64::from(p) <= first {
         return p;
     }
     first as u32

@@ -28,6 +28,10 @@ straight p reach r s = cond (leb s (p - s)) (ltb (r + reach * s) p) (leb (reach 
 unfoldable pub once : ℕ → ℕ → ℕ → ℕ → Bool
 once p reach r s = cond (leb s (p - s)) (ltb (r + reach * s) (2 * p)) (leb (reach * (p - s)) (p + r))
 
+-- it wraps at most so many times: with none it goes straight on
+unfoldable pub wraps_at_most : ℕ → ℕ → ℕ → ℕ → ℕ → Bool
+wraps_at_most wraps p reach r s = cond (leb s (p - s)) (ltb (r + reach * s) (wraps * p + p)) (leb (reach * (p - s)) (wraps * p + r))
+
 -- how far each step moves its place
 unfoldable pub turn : ℕ → ℕ → ℕ → ℕ
 turn p w s = cond (leb s (p - s)) (s % w) ((w - (p - s) % w) % w)

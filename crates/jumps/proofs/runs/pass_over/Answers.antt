@@ -11,7 +11,7 @@ pub loop-k-preserved : goal.loop-k-preserved
 loop-k-preserved c = (
   passed_more c.args.run c.loop-k.invariant.0 c.stretch-failed.ensures.0,
   (
-    omega (arith, c.stretch-failed.ensures.0.within, c.smaller-reach.ensures, min-le_right c.loop-k.k (c.args.run.prime - 1 - c.loop-k.k), c.loop-k-test.true),
+    omega (arith, c.stretch-failed.ensures.0.within, c.min-reach.ensures, min-le_right c.loop-k.k (c.args.run.prime - 1 - c.loop-k.k), c.loop-k-test.true),
     c.stretch-failed.ensures.1,
   ),
 )

@@ -1,5 +1,4 @@
--- `jumps::runs::stretch` meets its contract. The loop's invariant is `Swept`. The measure is what is left of the remainders.
-use Prim.Native.Nat.{◌-◌}
+-- `jumps::runs::stretch` meets its contract. The loop's invariant is `Swept`.
 use mathlib.Core.Path.{◌≡◌}
 use lib.ListN.{length}
 use Rattle.jumps.proofs.Passing.{Swept}
@@ -7,6 +6,3 @@ use Rattle.jumps.proofs.runs.stretch.Given as goal
 
 abbrev pub invariant-loop-i : goal.invariant-loop-i
 invariant-loop-i l = Swept l.run l.codes l.i l.found × (length l.keys ≡ length l.codes)
-
-abbrev pub decreases-loop-i : goal.decreases-loop-i
-decreases-loop-i l = l.run.step - l.i

@@ -1,4 +1,4 @@
--- `jumps::runs::too_many` meets its contract. The loop's invariant: those from i on make so many pairs, and no more than may be. The measure is i.
+-- `jumps::runs::too_many` meets its contract. The loop's invariant: those from i on make so many pairs, and no more than may be.
 use Prim.Native.Nat.{◌+◌, ◌≤◌}
 use mathlib.Core.Path.{◌≡◌}
 use lib.ListN.{drop, length}
@@ -8,6 +8,3 @@ use Rattle.jumps.proofs.runs.too_many.Given as goal
 abbrev pub invariant-loop-i : goal.invariant-loop-i
 invariant-loop-i l =
     (l.i ≤ length l.keys) × ((l.pairs ≤ l.run.most) × (l.pairs ≡ equal_pairs (drop l.i l.keys) + companies l.run l.keys (drop l.i l.keys) (drop l.i l.codes)))
-
-abbrev pub decreases-loop-i : goal.decreases-loop-i
-decreases-loop-i l = l.i

@@ -1,6 +1,6 @@
 use Rattle.jumps.proofs.Beginning.{stepped_more}
 use Rattle.jumps.proofs.starts.common_step.Goals as goal
 
-pub loop-i-preserved : goal.loop-i-preserved
-loop-i-preserved c =
-    stepped_more c.loop-i.invariant c.loop-i-test.true c.gcd-e.ensures
+pub loop-a-preserved : goal.loop-a-preserved
+loop-a-preserved c =
+    stepped_more c.loop-a.invariant c.loop-a-test.true c.gcd-e.ensures
