@@ -120,7 +120,6 @@ pub handed :
 handed {words} {part} {j} {h} {b} r ht lj hb is =
     let long : length part ≡ cells_of words j = ap length is ∙ part_length words r.starts r.sized.whole j lj in
     record {
-      hashed = ht.hashed;
       below = omega (arith, hb.multiplier_is, r.multipliers j lj);
       cells_are = long ∙ sym hb.cells_is;
       codes_below = λ t l.

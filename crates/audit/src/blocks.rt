@@ -1,7 +1,6 @@
 // One block of a table by itself: its codes are handed on as the part of the words that belongs to it, and are counted and placed there.
 // Branch-free but for the lengths: whether a cell holds a code, and whether it is its own, is not jumped on.
 ghost use Rattle.std.specs.Prelude.{◌<◌, ◌≤◌, ◌≡◌, length};
-ghost use Rattle.hash.specs.code.Contract.{Hashing};
 ghost use Rattle.prelude.specs.Answers.{first_of, some};
 ghost use Rattle.prelude.specs.code.Choice.{chosen};
 ghost use Rattle.prelude.specs.code.Within.{Within};
@@ -35,15 +34,15 @@ pub(crate) fn listed(place: u16) -> usize
 
 // Code a belongs to another block than j.
 fn elsewhere(h: Hasher, j: u32, a: u32) -> bool
-    requires { Hashing h × (a < h.prime) }
+    requires { a < h.prime }
     ensures { result ≡ elsewhere h j a }
 {
-    hash::hash_by(h, a) != j
+    h.place_of(a) != j
 }
 
 // Place t of the block is not code a's own.
 fn not_own(h: Hasher, b: BlockHash, t: usize, a: u32) -> bool
-    requires hashing { Hashing h × (a < h.prime) }
+    requires a_lt_prime { a < h.prime }
     requires multiplier_lt_prime { (b.multiplier < h.prime) × (0 < b.cells) }
     ensures { result ≡ not_own h b t a }
 {

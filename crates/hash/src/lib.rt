@@ -1,16 +1,65 @@
 // The one hash function. Codes, multipliers and the prime are words of 32 bits; their products take 64.
 #![tactic(auto)]
 
-ghost use Rattle.std.specs.Prelude.{◌*◌, ◌<◌, ◌≤◌, ◌≡◌};
-ghost use Rattle.hash.specs.code.Contract.{Hashed, Remainder, Ready, Hashing, reciprocal_of};
+ghost use Rattle.std.specs.Prelude.{◌*◌, ◌-◌, ◌<◌, ◌≤◌, ◌≡◌};
+ghost use Rattle.hash.specs.code.Contract.{Hashed, Remainder, Ready, reciprocal_of};
 
-// The hash by one multiplier among the same places, for many codes: with the precomputed reciprocal of the number of places.
+// The hash by one multiplier among the same places, for many codes: with the precomputed reciprocal of the number of places. It may be asked for any code
+// below the prime.
 #[derive(Clone, Copy)]
 pub struct Hasher {
     pub prime: u32,
     pub multiplier: u32,
     pub places: u32,
     pub reciprocal: u64,
+    pub ghost below: { multiplier < prime },
+    pub ghost ready: { Ready prime places reciprocal },
+}
+
+impl Hasher {
+    // The reciprocal is worked out here, by a division.
+    pub fn new(prime: u32, multiplier: u32, places: u32) -> Self
+        requires multiplier_lt_prime { multiplier < prime }
+        requires places_nonzero { 0 < places }
+        ensures prime_is { result.prime ≡ prime }
+        ensures multiplier_is { result.multiplier ≡ multiplier }
+        ensures places_is { result.places ≡ places }
+    {
+        Hasher {
+            prime,
+            multiplier,
+            places,
+            reciprocal: reciprocal(prime, places),
+        }
+    }
+
+    // The same places by another multiplier: no division.
+    pub fn with_multiplier(self, k: u32) -> Self
+        requires { k < self.prime }
+        ensures prime_is { result.prime ≡ self.prime }
+        ensures multiplier_is { result.multiplier ≡ k }
+        ensures places_is { result.places ≡ self.places }
+    {
+        Hasher {
+            prime: self.prime,
+            multiplier: k,
+            places: self.places,
+            reciprocal: self.reciprocal,
+        }
+    }
+
+    // The place of code a, as `hash` gives it.
+    pub fn place_of(self, a: u32) -> u32
+        requires { a < self.prime }
+        ensures { Hashed self.prime self.multiplier self.places a result }
+    {
+        remainder_by(
+            self.prime,
+            self.places,
+            self.reciprocal,
+            residue(self.prime, self.multiplier, a),
+        )
+    }
 }
 
 // x mod 65,537, without a division: 65,536 is one less than it, so the upper half of x counts negative.
@@ -46,28 +95,20 @@ fn by_constant(x: u64) -> u32
     (x % 1099511627776 % 1000003) as u32
 }
 
-// The product of two words.
-fn product(k: u32, a: u32) -> u64
-    ensures { result ≡ k * a }
-{
-    (k as u64) * (a as u64)
-}
-
 // x mod p, for a prime that has no form of its own.
 fn by_division(p: u32, x: u64) -> u32
     requires { 0 < p }
     ensures { Remainder x p result }
 {
-    (x % (p as u64)) as u32
+    (x % u64::from(p)) as u32
 }
 
-// (k × a) mod p, for a prime above 65,537.
-fn larger_residue(p: u32, k: u32, a: u32) -> u32
-    requires k_lt_p { k < p }
-    requires a_lt_p { a < p }
-    ensures { Remainder (k * a) p result }
+// x mod p, for a prime above 65,537 and the product x of two numbers below it.
+fn larger_residue(p: u32, x: u64) -> u32
+    requires p_nonzero { 0 < p }
+    requires x_le_square { x ≤ (p - 1) * (p - 1) }
+    ensures { Remainder x p result }
 {
-    let x = product(k, a);
     if p == 2147483647 {
         return by_folding(x);
     }
@@ -84,10 +125,10 @@ pub fn residue(p: u32, k: u32, a: u32) -> u32
     requires a_lt_p { a < p }
     ensures { Remainder (k * a) p result }
 {
+    let x = u64::from(k) * u64::from(a);
     if 65537 < p {
-        return larger_residue(p, k, a);
+        return larger_residue(p, x);
     }
-    let x = product(k, a);
     if p == 65537 {
         return by_halves(x);
     }
@@ -105,7 +146,7 @@ pub fn reciprocal(p: u32, w: u32) -> u64
     if 65535 < w {
         return 0;
     }
-    4294967295 / (w as u64) + 1
+    4294967295 / u64::from(w) + 1
 }
 
 // x mod w, by the reciprocal of w: a multiplication in place of a division.
@@ -117,7 +158,7 @@ fn remainder_by(p: u32, w: u32, reciprocal: u64, x: u32) -> u32
     if reciprocal == 0 {
         return x % w;
     }
-    let quotient = ((x as u64) * reciprocal / 4294967296) as u32;
+    let quotient = (u64::from(x) * reciprocal / 4294967296) as u32;
     x - quotient * w
 }
 
@@ -129,18 +170,4 @@ pub fn hash(p: u32, k: u32, w: u32, a: u32) -> u32
     ensures { Hashed p k w a result }
 {
     residue(p, k, a) % w
-}
-
-// The same for many codes among the same places.
-pub fn hash_by(h: Hasher, a: u32) -> u32
-    requires hashing { Hashing h }
-    requires a_lt_prime { a < h.prime }
-    ensures { Hashed h.prime h.multiplier h.places a result }
-{
-    remainder_by(
-        h.prime,
-        h.places,
-        h.reciprocal,
-        residue(h.prime, h.multiplier, a),
-    )
 }

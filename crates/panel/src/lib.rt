@@ -71,7 +71,7 @@ fn lookup_in(h: Hasher, limit: u32, words: &[u32], code: u32) -> Found
     if outside(1, h.prime - 1, code) {
         return Found::CodeOutOfRange;
     }
-    let j = wide(hash::hash_by(h, code));
+    let j = wide(h.place_of(code));
     in_block(h.prime, words, code, j)
 }
 

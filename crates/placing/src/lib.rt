@@ -2,7 +2,7 @@
 #![tactic(auto)]
 
 ghost use Rattle.std.specs.Prelude.{◌*◌, ◌<◌, ◌≡◌, length, take, replicate, set};
-ghost use Rattle.hash.specs.code.Contract.{Ready, Hashing};
+ghost use Rattle.hash.specs.code.Contract.{Ready};
 ghost use Rattle.hash.specs.Hash.{Codes};
 ghost use Rattle.search.specs.code.Cells.{square, filled_by};
 ghost use Rattle.search.specs.code.Searchable.{Searchable};
@@ -34,7 +34,7 @@ fn place_two(x: usize, y: usize, first: u32, second: u32, cells: &mut [u32])
 
 // Puts the codes of a block in their cells, which are all 0, and notes their places: no code is hashed again for its schedule.
 fn place_codes(h: Hasher, block: &[u32], places: &mut [u32], cells: &mut [u32])
-    requires hashing { Hashing h × Codes h.prime block.now }
+    requires hashing { Codes h.prime block.now }
     requires places_value { (h.places ≡ square block.now) × (cells.old ≡ replicate (square block.now) 0) }
     requires places_len { length places.old ≡ length block.now }
     ensures places_of { PlacesOf h.prime h.multiplier block.now places.new }
@@ -44,7 +44,7 @@ fn place_codes(h: Hasher, block: &[u32], places: &mut [u32], cells: &mut [u32])
     while 0 < i {
         i -= 1;
         let a = block[i];
-        let t = hash::hash_by(h, a);
+        let t = h.place_of(a);
         cells[wide(t)] = a;
         places[i] = t;
     }

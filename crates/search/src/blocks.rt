@@ -1,7 +1,6 @@
 // The least multiplier k of a list: each k is tried by counting the codes of its blocks. Theory: source 000, lemma 2, which is lemma 1 with n places for
 // n codes: some k below p gives fewer than 3n cells, so the search ends. The cells have the parity of n, so that fewer than 3n is at most 3n - 2.
 ghost use Rattle.std.specs.Prelude.{◌<◌, ◌≡◌, length, replicate};
-ghost use Rattle.hash.specs.code.Contract.{Hashing};
 ghost use Rattle.search.specs.code.Searchable.{Searchable};
 ghost use Rattle.search.specs.code.Blocks.{Countable, Counted, Blocked, LeastBlocks};
 
@@ -37,7 +36,7 @@ fn clear(counts: &mut [u8])
 // codes are taken from the last, as the definitions count them: each one against those after it. The block of each code and the load of each block are
 // left for the counting sort. A count is a byte: 79 codes in one block are too many cells.
 fn count_cells(h: Hasher, codes: &[u32], blocks: &mut [u16], counts: &mut [u8]) -> Count
-    requires hashing { Hashing h × (h.places ≡ length codes.now) }
+    requires hashing { h.places ≡ length codes.now }
     requires countable { Countable h.prime codes.now blocks.old counts.old }
     ensures { Counted h.prime h.multiplier codes.now result blocks.new counts.new }
 {
@@ -47,7 +46,7 @@ fn count_cells(h: Hasher, codes: &[u32], blocks: &mut [u16], counts: &mut [u8]) 
     let mut i = codes.len();
     while 0 < i {
         i -= 1;
-        let t = hash::hash_by(h, codes[i]);
+        let t = h.place_of(codes[i]);
         blocks[i] = t as u16;
         let m = counts[t as usize] as u32;
         c += 2 * m + 1;

@@ -3,7 +3,7 @@
 // the block's own cells, which are still all 0, are the scratch buffer.
 ghost use Rattle.std.specs.Prelude.{◌<◌, ◌≤◌, ◌≡◌, [], ◌∷◌, eqb, length, replicate};
 ghost use Rattle.hash.specs.Hash.{hash_of, together, Codes};
-ghost use Rattle.hash.specs.code.Contract.{Ready, Hashing};
+ghost use Rattle.hash.specs.code.Contract.{Ready};
 ghost use Rattle.search.specs.code.Cells.{square, Unplaced, Placing, Tried, Separated};
 ghost use Rattle.search.specs.code.Searchable.{Searchable};
 
@@ -13,13 +13,13 @@ use prelude::numbers::one;
 
 // Takes the codes from `from` on out of their cells again, which are then all 0.
 fn undo(h: Hasher, block: &[u32], from: usize, cells: &mut [u32])
-    requires hashing { Hashing h × Codes h.prime block.now }
+    requires hashing { Codes h.prime block.now }
     requires placing { Placing h.prime h.multiplier h.places block.now from cells.old }
     ensures { cells.new ≡ replicate h.places 0 }
 {
     let mut i = from;
     while i < block.len() {
-        let t = hash::hash_by(h, block[i]) as usize;
+        let t = h.place_of(block[i]) as usize;
         cells[t] = 0;
         i += 1;
     }
@@ -28,14 +28,14 @@ fn undo(h: Hasher, block: &[u32], from: usize, cells: &mut [u32])
 // Places the codes of a block in its cells, which are all 0, and tells whether no two fall in one cell. Where two do, the cells
 // are all 0 again. The codes are taken from the last, so that a code is tested against those after it, as the definitions do.
 fn place_block(h: Hasher, block: &[u32], cells: &mut [u32]) -> bool
-    requires hashing { Hashing h × (h.places ≡ length cells.old) }
+    requires hashing { h.places ≡ length cells.old }
     requires unplaced { Unplaced h.prime block.now cells.old }
     ensures { Tried h.prime h.multiplier block.now cells.old cells.new result }
 {
     let mut i = block.len();
     while 0 < i {
         let a = block[i - 1];
-        let t = hash::hash_by(h, a) as usize;
+        let t = h.place_of(a) as usize;
         if cells[t] != 0 {
             undo(h, block, i, cells);
             return false;
@@ -74,7 +74,7 @@ fn cells_multiplier(p: u32, reciprocal: u64, block: &[u32], cells: &mut [u32]) -
 
 // Whether the codes of a block fall in different cells, branch-free: the cells taken are a bit set.
 fn apart(h: Hasher, block: &[u32]) -> bool
-    requires hashing { Hashing h × Codes h.prime block.now }
+    requires hashing { Codes h.prime block.now }
     requires places_bound { h.places ≤ 64 }
     ensures { result ≡ eqb (together h.prime h.multiplier h.places block.now) 0 }
 {
@@ -83,7 +83,7 @@ fn apart(h: Hasher, block: &[u32]) -> bool
     let mut i = block.len();
     while 0 < i {
         i -= 1;
-        let bit = 1u64 << hash::hash_by(h, block[i]);
+        let bit = 1u64 << h.place_of(block[i]);
         shared = shared | (taken & bit);
         taken = taken | bit;
     }

@@ -143,12 +143,7 @@ pub fn table_hash(p: u32, words: &[u32]) -> Hasher
     requires words_bound { multiplier words.now < p }
     ensures { HashOf words.now result × (result.prime ≡ p) }
 {
-    Hasher {
-        prime: p,
-        multiplier: words[2],
-        places: words[0],
-        reciprocal: hash::reciprocal(p, words[0]),
-    }
+    Hasher::new(p, words[2], words[0])
 }
 
 // The cell of block j, which has cells, that is a code's own, counted over the whole table.

@@ -1,7 +1,6 @@
 -- One block of a table by itself: what the check hands on, and what it relies on there.
 use Rattle.std.specs.Prelude.{ℕ, ◌*◌, ◌-◌, ◌<◌, ◌≤◌, Bool, not, ◌&&◌, List, ◌≡◌, eqb, length, get_or, take}
 use Rattle.hash.specs.Hash.{hash_of}
-use Rattle.hash.specs.code.Contract.{Hashing}
 use Rattle.hash.specs.declared.Hasher.{Hasher}
 use Rattle.prelude.specs.Answers.{some}
 use Rattle.table.specs.Words.{code_count, cell_count, total, block_start, block_end, block_multiplier, cell_code}
@@ -32,7 +31,6 @@ misplaced_in h b part t = holds part t && not_own h b t (get_or part t 0)
 
 -- a block's codes, with the hashes of the table and of the block
 pub record Handed (h : Hasher) (b : BlockHash) (part : List ℕ) : Type 0 where
-  pub hashed : Hashing h
   pub below : b.multiplier < h.prime
   pub cells_are : length part ≡ b.cells
   pub codes_below : (t : ℕ) → t < length part → get_or part t 0 < h.prime

@@ -1,4 +1,5 @@
 -- `hash::reciprocal` meets its contract: its tests are the definition's, in the same order.
+use Rattle.std.proofs.Common.{refl}
 use borrow.Author.Tests.{lt-ltb, le-ltb}
 use Rattle.hash.specs.code.Contract.{reciprocal_of}
 use Rattle.hash.proofs.reciprocal.Goals as goal
@@ -13,4 +14,4 @@ returns-then-w-gt65535 c = rw (le-ltb _ _ c.if-p-gt65537.false, lt-ltb _ _ c.if-
 
 pub returns : goal.returns
 unfolding reciprocal_of
-returns c = rw (le-ltb _ _ c.if-p-gt65537.false, le-ltb _ _ c.if-w-gt65535.false)
+returns c = rw (c.from.ensures, le-ltb _ _ c.if-p-gt65537.false, le-ltb _ _ c.if-w-gt65535.false) refl

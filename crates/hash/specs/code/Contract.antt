@@ -1,7 +1,6 @@
 -- What the functions of this crate answer.
 use Rattle.std.specs.Prelude.{ℕ, ◌+◌, ◌*◌, ◌/◌, ◌%◌, ◌<◌, ◌≤◌, cond, ◌≡◌, ltb}
 use Rattle.hash.specs.Hash.{hash_of}
-use Rattle.hash.specs.declared.Hasher.{Hasher}
 
 -- r is the remainder of x by w
 pub record Remainder (x w r : ℕ) : Type 0 where
@@ -28,8 +27,3 @@ pub record Reciprocal (p w r : ℕ) : Type 0 where
 pub record Ready (p w r : ℕ) : Type 0 where
   pub positive : 0 < w
   pub exact : 0 < r → Reciprocal p w r
-
--- what a hash of codes below the prime relies on
-pub record Hashing (h : Hasher) : Type 0 where
-  pub below : h.multiplier < h.prime
-  pub ready : Ready h.prime h.places h.reciprocal

@@ -20,7 +20,7 @@ pub in_block-requires : goal.in_block-requires
 in_block-requires c =
     let range : outside 1 (c.args.h.prime - 1) c.args.code ≡ false = sym c.outside.ensures ∙ c.if-outside.false in (
       below_prime _ _ range,
-      record { whole = (sized c.requires.0.sizes).whole; below = omega (arith, c.wide-j.ensures.value, c.hash_by.ensures.range, c.requires.1.blocks_is) },
+      record { whole = (sized c.requires.0.sizes).whole; below = omega (arith, c.wide-j.ensures.value, c.place_of.ensures.range, c.requires.1.blocks_is) },
     )
 
 pub returns : goal.returns
@@ -29,5 +29,5 @@ returns c =
     let range : outside 1 (c.args.h.prime - 1) c.args.code ≡ false = sym c.outside.ensures ∙ c.if-outside.false in
     c.in_block.ensures
     ∙ ap (in_block c.args.h.prime c.args.words.now c.args.code)
-    (c.wide-j.ensures.value ∙ c.hash_by.ensures.value ∙ ap₂ (λ (k n : ℕ). hash_of c.args.h.prime k n c.args.code) c.requires.1.multiplier_is c.requires.1.blocks_is)
+    (c.wide-j.ensures.value ∙ c.place_of.ensures.value ∙ ap₂ (λ (k n : ℕ). hash_of c.args.h.prime k n c.args.code) c.requires.1.multiplier_is c.requires.1.blocks_is)
     ∙ sym (lookup_block _ _ _ _ range c.requires.0.three c.requires.0.sizes (λ none. omega (arith, c.requires.0.some)))

@@ -12,10 +12,10 @@ loop-i-init c =
 
 pub loop-i-preserved : goal.loop-i-preserved
 loop-i-preserved c =
-    let within : c.wide.result < c.args.h.places = omega (arith, c.wide.ensures.value, c.hash_by-t.ensures.range) in (
-      placed_more c.loop-i.invariant.0 refl c.loop-i-test.true c.wide.result (c.wide.ensures.value ∙ c.hash_by-t.ensures.value) within,
+    let within : c.wide.result < c.args.h.places = omega (arith, c.wide.ensures.value, c.place_of-t.ensures.range) in (
+      placed_more c.loop-i.invariant.0 refl c.loop-i-test.true c.wide.result (c.wide.ensures.value ∙ c.place_of-t.ensures.value) within,
       (
-        noted_more _ c.loop-i.places c.loop-i.invariant.1.0 _ c.hash_by-t.ensures.value,
+        noted_more _ c.loop-i.places c.loop-i.invariant.1.0 _ c.place_of-t.ensures.value,
         (simp length-set c.loop-i.invariant.1.1.0, simp length-set c.loop-i.invariant.1.1.1),
       ),
     )

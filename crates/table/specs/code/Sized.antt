@@ -1,6 +1,5 @@
 -- The sizes of a table where conditions 12 to 15 of document 01 are ruled out, in propositions.
 use Rattle.std.specs.Prelude.{ℕ, ◌+◌, ◌*◌, ◌<◌, ◌≤◌, Bool, false, cond, not, List, ◌≡◌, eqb, ltb, length}
-use Rattle.hash.specs.code.Contract.{Hashing}
 use Rattle.hash.specs.declared.Hasher.{Hasher}
 use Rattle.table.specs.Words.{code_count, cell_count, multiplier, total}
 use Rattle.table.specs.Sizes.{bad_sizes}
@@ -45,6 +44,5 @@ has_blocks p limit words = cond (ltb (length words) 3) false (cond (eqb (code_co
 
 -- h is the hash of a table's codes into its blocks, of which there are some
 pub record HashOf (words : List ℕ) (h : Hasher) : Type 0 where
-  pub hashed : Hashing h
   pub multiplier_is : h.multiplier ≡ multiplier words
   pub blocks_is : h.places ≡ code_count words

@@ -5,4 +5,4 @@ use Rattle.audit.proofs.blocks.elsewhere.Goals as goal
 
 pub returns : goal.returns
 unfolding elsewhere
-returns c = rw (← c.hash_by.ensures.value) refl
+returns c = rw (← c.place_of.ensures.value) refl

@@ -16,7 +16,7 @@ pub not_own-found-requires : goal.not_own-found-requires
 not_own-found-requires c =
     let within : c.listed-t.result < length c.args.part.now = omega (arith, c.listed-t.ensures.value, listed_below c.args.part.now c.args.list.now c.loop-i.i c.requires.1 (omega arith)) in
     record {
-      hashing = (c.requires.0.hashed, c.requires.0.codes_below _ within);
+      a_lt_prime = c.requires.0.codes_below _ within;
       multiplier_lt_prime = (c.requires.0.below, omega (arith, c.requires.0.cells_are));
     }
 

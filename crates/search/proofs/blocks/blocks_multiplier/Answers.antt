@@ -8,15 +8,12 @@ use Rattle.search.proofs.blocks.blocks_multiplier.Goals as goal
 pub loop-k-init : goal.loop-k-init
 loop-k-init c = (blocks_start c.requires.searchable.0 c.requires.searchable.1, c.requires.blocks_len)
 
+pub invariant_of-h : goal.invariant_of-h
+invariant_of-h c = record { below = c.loop-k-test.true; ready = ready (omega arith) c.reciprocal-reciprocal.ensures }
+
 pub count_cells-count-requires : goal.count_cells-count-requires
 count_cells-count-requires c = record {
-  hashing = (
-    record {
-      below = omega (arith, c.loop-k.invariant.0.upto, c.loop-k.invariant.0.least.below);
-      ready = ready (omega arith) c.reciprocal-reciprocal.ensures;
-    },
-    refl,
-  );
+  hashing = refl;
   countable =
       record { below = c.requires.searchable.0.valid.below; some = c.requires.searchable.1; few = c.requires.searchable.0.few; sized = c.loop-k.invariant.1 };
 }

@@ -12,32 +12,32 @@ loop-i-init c =
 
 pub returns-then-most-c : goal.returns-then-most-c
 returns-then-most-c c =
-    let own : c.hash_by-t.result
+    let own : c.place_of-t.result
     ≡ hash_of c.args.h.prime c.args.h.multiplier (length c.args.codes.now) (get_or c.args.codes.now (c.loop-i.i - 1) 0) =
-    rw (← c.requires.hashing.1) c.hash_by-t.ensures.value in
-    let within : c.hash_by-t.result < length c.args.codes.now = omega (arith, c.hash_by-t.ensures.range, c.requires.hashing.1) in
+    rw (← c.requires.hashing) c.place_of-t.ensures.value in
+    let within : c.place_of-t.result < length c.args.codes.now = omega (arith, c.place_of-t.ensures.range, c.requires.hashing) in
     over_leaves
-    (counting_over c.loop-i.invariant.0 c.loop-i-test.true c.hash_by-t.result own within
-    (omega (arith, c.requires.hashing.1)))
+    (counting_over c.loop-i.invariant.0 c.loop-i-test.true c.place_of-t.result own within
+    (omega (arith, c.requires.hashing)))
 
 pub overflow_cast-counts : goal.overflow_cast-counts
 overflow_cast-counts c =
-    let own : c.hash_by-t.result
+    let own : c.place_of-t.result
     ≡ hash_of c.args.h.prime c.args.h.multiplier (length c.args.codes.now) (get_or c.args.codes.now (c.loop-i.i - 1) 0) =
-    rw (← c.requires.hashing.1) c.hash_by-t.ensures.value in
-    let within : c.hash_by-t.result < length c.args.codes.now = omega (arith, c.hash_by-t.ensures.range, c.requires.hashing.1) in
-    let byte : get_or c.loop-i.counts c.hash_by-t.result 0 < 255 =
-    counting_byte c.loop-i.invariant.0 c.loop-i-test.true c.hash_by-t.result own within c.requires.countable.few in
+    rw (← c.requires.hashing) c.place_of-t.ensures.value in
+    let within : c.place_of-t.result < length c.args.codes.now = omega (arith, c.place_of-t.ensures.range, c.requires.hashing) in
+    let byte : get_or c.loop-i.counts c.place_of-t.result 0 < 255 =
+    counting_byte c.loop-i.invariant.0 c.loop-i-test.true c.place_of-t.result own within c.requires.countable.few in
     record { fits = omega (arith, byte) }
 
 pub loop-i-preserved : goal.loop-i-preserved
 loop-i-preserved c =
-    let own : c.hash_by-t.result
+    let own : c.place_of-t.result
     ≡ hash_of c.args.h.prime c.args.h.multiplier (length c.args.codes.now) (get_or c.args.codes.now (c.loop-i.i - 1) 0) =
-    rw (← c.requires.hashing.1) c.hash_by-t.ensures.value in
-    let within : c.hash_by-t.result < length c.args.codes.now = omega (arith, c.hash_by-t.ensures.range, c.requires.hashing.1) in (
-      counting_more c.loop-i.invariant.0 c.loop-i-test.true c.hash_by-t.result own within
-          (omega (arith, c.requires.hashing.1)),
+    rw (← c.requires.hashing) c.place_of-t.ensures.value in
+    let within : c.place_of-t.result < length c.args.codes.now = omega (arith, c.place_of-t.ensures.range, c.requires.hashing) in (
+      counting_more c.loop-i.invariant.0 c.loop-i-test.true c.place_of-t.result own within
+          (omega (arith, c.requires.hashing)),
       (simp length-set c.loop-i.invariant.1.0, simp length-set c.loop-i.invariant.1.1),
     )
 

@@ -9,5 +9,5 @@ loop-i-init c =
 
 pub loop-i-preserved : goal.loop-i-preserved
 loop-i-preserved c =
-    taking_more c.loop-i.invariant c.loop-i-test.true c.hash_by.result c.hash_by.ensures.value _
-    (single_is c.hash_by.result (omega (arith, c.hash_by.ensures.range)))
+    taking_more c.loop-i.invariant c.loop-i-test.true c.place_of.result c.place_of.ensures.value _
+    (single_is c.place_of.result (omega (arith, c.place_of.ensures.range)))

@@ -1,7 +1,7 @@
--- `hash::hash_by` meets its contract: the remainder by w of the residue, which is below p.
+-- `hash::Hasher::place_of` meets its contract: the remainder by w of the residue, which is below p.
 use Rattle.std.proofs.Common.{refl, ◌∙◌}
 use Rattle.hash.specs.Hash.{hash_of}
-use Rattle.hash.proofs.hash_by.Goals as goal
+use Rattle.hash.proofs.Hasher.place_of.Goals as goal
 
 pub returns : goal.returns
 unfolding hash_of
