@@ -12,19 +12,27 @@ use Rattle.prelude.proofs.First.{none_refused}
 use Rattle.prelude.proofs.Refusals.{never_both}
 use Rattle.suppliers.specs.Text.{lines_of}
 use Rattle.suppliers.specs.Lists.{faulty_line, read_list_of, ListRead}
+use Rattle.suppliers.specs.Answered.{text_error_of}
+use Rattle.suppliers.specs.declared.read.TextError.{TextError}
+use Rattle.suppliers.specs.declared.read.TextError.TheVariants.{FaultyLine, TooManyLines}
 use Rattle.suppliers.specs.code.Scan.{judge_of, Fillable, Filled}
 use Rattle.suppliers.proofs.ReadLaws.{some_faulty, short_72, enough_read}
 
+-- an error is a refusal
+not_given : (e : TextError) (values : List ℕ) → text_error_of e ≡ given values → ⊥
+not_given (FaultyLine line) values g = never_both {number = 71} {value = line} refl g
+not_given (TooManyLines lines) values g = never_both {number = 72} {value = lines} refl g
+
 module _ (text : List ℕ) where
   -- a faulty line
-  pub read_faulty : {line : ℕ} → refused 71 line ≡ judge_of text → (codes schedules : List ℕ) → ListRead text codes schedules (refused 71 line) codes schedules
+  pub read_faulty : (e : TextError) → text_error_of e ≡ judge_of text → (codes schedules : List ℕ) → ListRead text codes schedules (text_error_of e) codes schedules
   unfolding judge_of read_list_of
-  read_faulty {line} e codes schedules =
+  read_faulty e j codes schedules =
       elim (true_or_false (some_faulty text)) [
         | inl t ↦
-            let same : refused 71 line ≡ refused 71 (first_of (length (lines_of text)) (faulty_line text)) = rw t at e in
-            record { answers = rw t same; codes_at_exit = rw t; schedules_at_exit = rw t }
-        | inr f ↦ never_both refl (rw f at e)
+            let same : text_error_of e ≡ refused 71 (first_of (length (lines_of text)) (faulty_line text)) = rw t at j in
+            record { answers = rw (t, same); codes_at_exit = rw t; schedules_at_exit = rw t }
+        | inr f ↦ absurd (not_given e _ (rw f at j))
       ]
 
   -- none is
@@ -41,10 +49,11 @@ module _ (text : List ℕ) where
     unfolding judge_of
     counted = let g : given (lines ∷ []) ≡ given (length (lines_of text) ∷ []) = rw none_faulty at e in cc
 
-    pub fillable : (codes schedules : List ℕ) → lines ≤ length codes → lines ≤ length schedules → Fillable text codes schedules
+    pub fillable : (codes schedules : List ℕ) → lines ≤ length codes → lines ≤ length schedules → Fillable text lines codes schedules
     fillable codes schedules a b =
         record {
-          lines = (none_refused (length (lines_of text)) (faulty_line text)).0 none_faulty;
+          counted = counted;
+          right = (none_refused (length (lines_of text)) (faulty_line text)).0 none_faulty;
           codes_room = omega (arith, counted);
           schedules_room = omega (arith, counted);
         }

@@ -3,6 +3,7 @@ use Prim.Native.Nat.{ℕ, ◌+◌, ◌<◌, ◌≤◌}
 use mathlib.Core.Bool.{true}
 use mathlib.Core.List.{List, [], ◌∷◌, map}
 use mathlib.Core.Path.{◌≡◌, ap, sym, ◌∙◌}
+use native.Mathlib.Decide.{dec_lt}
 use native.Mathlib.Nat.{zero-add}
 use native.Mathlib.Numerals.{add-one}
 use native.Mathlib.Omega.{arith}
@@ -83,19 +84,26 @@ scannable text at e h =
     some_byte (b ∷ t) h = omega arith
 
 module _
-    {text codes schedules : List ℕ} (f : Fillable text codes schedules) {at i : ℕ} {codes' schedules' : List ℕ}
+    {text codes schedules : List ℕ} {lines : ℕ} (f : Fillable text lines codes schedules) {at i : ℕ} {codes' schedules' : List ℕ}
     (l : Filling text codes schedules at i codes' schedules') where
-  pub filling_all : length text ≤ at → Filled text codes schedules codes' schedules'
-  filling_all h =
+  pub filling_all : i ≡ lines → Filled text codes schedules codes' schedules'
+  filling_all e =
       record {
-        codes_at_exit = left_none _ text i codes codes' (through_end l.through h) l.codes_left;
-        schedules_at_exit = left_none _ text i schedules schedules' (through_end l.through h) l.schedules_left;
+        codes_at_exit = left_none _ text i codes codes' (e ∙ f.counted) l.codes_left;
+        schedules_at_exit = left_none _ text i schedules schedules' (e ∙ f.counted) l.schedules_left;
       }
 
   -- the line from here on is that of a pair, and its pair fills the next places
-  module _ (h : at < length text) where
+  module _ (b : i < lines) where
+    h : at < length text
+    h =
+        elim (dec_lt at (length text)) [
+          | yes l ↦ l
+          | no g ↦ absurd (omega (arith, f.counted, through_end l.through (omega arith)))
+        ]
+
     line : Begun (drop at text)
-    line = begun (drop at text) (not-false _ (sym (fault_here l.through h) ∙ f.lines i (here l.through h).below))
+    line = begun (drop at text) (not-false _ (sym (fault_here l.through h) ∙ f.right i (here l.through h).below))
 
     pub code_inside : Scannable text at
     code_inside = scannable text at line.code_number (omega (arith, line.comma))
@@ -107,9 +115,9 @@ module _
       pub schedule_inside : Scannable text (code.end + 1)
       schedule_inside = scannable text (code.end + 1) (rw after_comma_lem line.schedule_number) (rw after_comma_lem (omega (arith, line.newline)))
 
-      module _ {schedule : Scanned} (b : NumberScanned text (code.end + 1) schedule) where
+      module _ {schedule : Scanned} (e : NumberScanned text (code.end + 1) schedule) where
         line_ended : schedule.end + 1 ≡ at + length (first_line (drop at text))
-        line_ended = omega (arith, a.end, rw after_comma_lem at b.end, line_length line)
+        line_ended = omega (arith, a.end, rw after_comma_lem at e.end, line_length line)
 
         pub next : Next text codes schedules at i codes' schedules' code schedule
         next =
@@ -118,11 +126,11 @@ module _
             let schedules_fit : i < length schedules' = omega (arith, (here l.through h).below, f.schedules_room, kept l.schedules_left.added) in
             record {
               code_word = rw a.value (number_most (digits_in (drop at text)) line.code_number);
-              schedule_word = rw (b.value, after_comma_lem) (number_most (digits_in (after_comma (drop at text))) line.schedule_number);
+              schedule_word = rw (e.value, after_comma_lem) (number_most (digits_in (after_comma (drop at text))) line.schedule_number);
               codes_room = codes_fit;
               schedules_room = schedules_fit;
               later = omega (arith, line_ended, (here l.through h).some_byte);
-              inside = omega (arith, b.end, schedule_inside.inside);
+              inside = omega (arith, e.end, schedule_inside.inside);
               filling =
                   record {
                     through = rw line_ended (through_more l.through h);
@@ -130,7 +138,7 @@ module _
                         rw (a.value, sym (ap (λ (r : Pair). r.code) pair))
                         (left_more _ text at i codes codes' (here l.through h) l.codes_left codes_fit);
                     schedules_left =
-                        rw (b.value, after_comma_lem, sym (ap (λ (r : Pair). r.schedule) pair))
+                        rw (e.value, after_comma_lem, sym (ap (λ (r : Pair). r.schedule) pair))
                         (left_more _ text at i schedules schedules' (here l.through h) l.schedules_left schedules_fit);
                   };
             }

@@ -11,6 +11,7 @@ use borrow.Author.Tests.{le-ltb, lt-ltb}
 use lib.Dec.{eqb}
 use lib.ListN.{length, get_or, drop, length-append, length-drop, drop_of_length-le}
 use lib.Seq.{drop-cons, drop-drop, get_or-drop}
+use Rattle.std.specs.Prelude.{Option, Some, None}
 use Rattle.decimal.specs.code.Digits.{digits_end}
 use Rattle.hash.proofs.Indicators.{true_or_false}
 use Rattle.prelude.specs.Answers.{given, refused}
@@ -88,11 +89,16 @@ module _ {text : List ℕ} {at lines : ℕ} (t : Through text at lines) where
   unfolding faulty_line
   fault_here h = rw ((here h).line, line_begins)
 
--- where a line ends past the place where it begins, it is that of a pair
-ended : (text : List ℕ) (at : ℕ) → (line_end text at ≡ at → ⊥) → (begins_line (drop at text) ≡ true) × (line_end text at ≡ at + length (first_line (drop at text)))
+-- a line of a pair ends where its bytes do
+ended :
+    (text : List ℕ) (at : ℕ) {next : ℕ} → line_end text at ≡ Some next
+    → (begins_line (drop at text) ≡ true) × (next ≡ at + length (first_line (drop at text)))
 unfolding line_end
-ended text at h =
-    elim (true_or_false (begins_line (drop at text))) [ inl e ↦ (e, rw e) | inr e ↦ absurd (h (rw e)) ]
+ended text at {next} h =
+    elim (true_or_false (begins_line (drop at text))) [
+      | inl e ↦ let f : Some (at + length (first_line (drop at text))) ≡ Some next = rw e at h in (e, cc)
+      | inr e ↦ let f : ◌≡◌ {A = Option ℕ} None (Some next) = rw e at h in absurd cc
+    ]
 
 -- and no line before it is faulty
 pub record Judging (text : List ℕ) (at lines : ℕ) : Type 0 where
@@ -110,11 +116,11 @@ module _ {text : List ℕ} {at lines : ℕ} (j : Judging text at lines) where
       rw (← end, first_end lines (faulty_line text) lines (omega arith) (omega arith) j.good, le-ltb lines lines (omega arith))
 
   module _ (h : at < length text) where
-    pub judging_fault : line_end text at ≡ at → refused 71 lines ≡ judge_of text
+    pub judging_fault : None ≡ line_end text at → refused 71 lines ≡ judge_of text
     unfolding judge_of line_end
     judging_fault e =
         elim (true_or_false (begins_line (drop at text))) [
-          | inl b ↦ absurd (omega (arith, rw b at e, (here j.through h).some_byte))
+          | inl b ↦ let f : ◌≡◌ {A = Option ℕ} None (Some (at + length (first_line (drop at text)))) = rw b at e in absurd cc
           | inr b ↦
               let l = here j.through h in
               let first = first_found _ (faulty_line text) lines l.below j.good (fault_here j.through h ∙ ap not b) in
@@ -125,16 +131,16 @@ module _ {text : List ℕ} {at lines : ℕ} (j : Judging text at lines) where
     pub judging_open : ((i : ℕ) → at ≤ i → get_or text i 0 ≡ 10 → ⊥) → refused 71 lines ≡ judge_of text
     judging_open none =
         let end = digits_end text (digits_end text at + 1) in
-        judging_fault (sym (no_newline text at refl refl (none end (omega arith))))
+        judging_fault (no_newline text at refl refl (none end (omega arith)))
 
-    module _ (n : line_end text at ≡ at → ⊥) where
-      pub judging_later : at < line_end text at
+    module _ {next : ℕ} (n : line_end text at ≡ Some next) where
+      pub judging_later : at < next
       judging_later = omega (arith, (ended text at n).1, (here j.through h).some_byte)
 
-      pub judging_within : {end : ℕ} → TextEnd text end → at < end → line_end text at ≤ end
+      pub judging_within : {end : ℕ} → TextEnd text end → at < end → next ≤ end
       judging_within e l = omega (arith, (ended text at n).1, line_before (newline_ahead e l))
 
-      pub judging_more : Judging text (line_end text at) (lines + 1)
+      pub judging_more : Judging text next (lines + 1)
       judging_more =
           record {
             through = rw (ended text at n).1 (through_more j.through h);

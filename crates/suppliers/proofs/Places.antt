@@ -11,6 +11,7 @@ use borrow.Author.Tests.{ne_eqb}
 use lib.Dec.{eqb}
 use lib.ListN.{length, get_or, drop, get_or-eq_default}
 use lib.Seq.{drop-drop, get_or-drop}
+use Rattle.std.specs.Prelude.{Some, None}
 use Rattle.decimal.specs.Number.{digits_in, after_digits, is_number}
 use Rattle.decimal.specs.code.Digits.{digits_end}
 use Rattle.decimal.proofs.Numbers.{after_digits_lem, digits_at, digits_plain}
@@ -65,17 +66,17 @@ and_false : (a : Bool) → a && false ≡ false
 and_false true = refl
 and_false false = refl
 
-no_line : (text : List ℕ) (at : ℕ) → begins_line (drop at text) ≡ false → at ≡ line_end text at
+no_line : (text : List ℕ) (at : ℕ) → begins_line (drop at text) ≡ false → None ≡ line_end text at
 unfolding line_end
 no_line text at h = rw h
 
 -- the four tests of a line: it is none where the first number or the comma is not there
 module _ (text : List ℕ) (at : ℕ) {comma : ℕ} (d : comma ≡ digits_end text at) where
-  pub no_comma : (get_or text comma 0 ≡ 44 → ⊥) → at ≡ line_end text at
+  pub no_comma : (get_or text comma 0 ≡ 44 → ⊥) → None ≡ line_end text at
   unfolding begins_line
   no_comma h = no_line text at (rw (← byte_end text at d, ne_eqb (get_or text comma 0) 44 h) (and_false (is_number (digits_in (drop at text)))))
 
-  pub no_code : is_number (digits_in (drop at text)) ≡ false → at ≡ line_end text at
+  pub no_code : is_number (digits_in (drop at text)) ≡ false → None ≡ line_end text at
   unfolding begins_line
   no_code h = no_line text at (rw h)
 
@@ -88,16 +89,16 @@ module _ (text : List ℕ) (at : ℕ) {comma : ℕ} (d : comma ≡ digits_end te
     unfolding begins_line
     begins_is = rw (byte_end text at d, byte_end text (comma + 1) e, drop_next text at d)
 
-    pub no_newline : (get_or text end 0 ≡ 10 → ⊥) → at ≡ line_end text at
+    pub no_newline : (get_or text end 0 ≡ 10 → ⊥) → None ≡ line_end text at
     no_newline h = no_line text at (begins_is ∙ simp (ne_eqb (get_or text end 0) 10 h, and_false))
 
-    pub no_schedule : is_number (digits_in (drop (comma + 1) text)) ≡ false → at ≡ line_end text at
+    pub no_schedule : is_number (digits_in (drop (comma + 1) text)) ≡ false → None ≡ line_end text at
     no_schedule h = no_line text at (begins_is ∙ simp (h, and_false))
 
     pub line_ends :
         is_number (digits_in (drop at text)) ≡ true → get_or text comma 0 ≡ 44
-        → is_number (digits_in (drop (comma + 1) text)) ≡ true → get_or text end 0 ≡ 10 → end + 1 ≡ line_end text at
+        → is_number (digits_in (drop (comma + 1) text)) ≡ true → get_or text end 0 ≡ 10 → Some (end + 1) ≡ line_end text at
     unfolding line_end
     line_ends a b c n =
         let h : begins_line (drop at text) ≡ true = begins_is ∙ rw (a, b, c, n) in
-        rw (h, line_length (begun (drop at text) h), ← drop_next text at d) (omega arith)
+        rw (h, line_length (begun (drop at text) h), ← drop_next text at d) (ap Some (omega arith))

@@ -1,49 +1,23 @@
 // The answers of reading and writing a text, for C and for a refusal's line.
+ghost use Rattle.prelude.specs.Answers.{Answer, answer_of};
 ghost use Rattle.prelude.specs.Numbers.{SizeShown};
-ghost use Rattle.suppliers.specs.Answered.{text_read_of, text_written_of};
 
-use crate::read::TextRead;
-use crate::write::TextWritten;
 use prelude::answers::NumberedSize;
 
-pub fn numbered_read(a: TextRead) -> NumberedSize
-    ensures { SizeShown (text_read_of a) result }
-{
-    match a {
-        TextRead::Pairs(n) => NumberedSize {
-            number: 0,
-            value: n,
-        },
-        TextRead::FaultyLine(line) => NumberedSize {
-            number: 71,
-            value: line,
-        },
-        TextRead::TooManyLines(lines) => NumberedSize {
-            number: 72,
-            value: lines,
-        },
-    }
+// An error that is a refusal of the paper, and comes with a size.
+pub trait SizeRefusal {
+    ghost refusal_of: { Self → Answer };
+
+    fn refusal(self) -> NumberedSize
+        ensures { SizeShown (refusal_of self) result };
 }
 
-pub fn numbered_written(a: TextWritten) -> NumberedSize
-    ensures { SizeShown (text_written_of a) result }
+// The size that a call gives, or its error, in numbers.
+pub fn size_in_numbers<E: SizeRefusal>(r: Result<usize, E>) -> NumberedSize
+    ensures { SizeShown (answer_of E.refusal_of r) result }
 {
-    match a {
-        TextWritten::Bytes(n) => NumberedSize {
-            number: 0,
-            value: n,
-        },
-        TextWritten::LengthsDiffer => NumberedSize {
-            number: 1,
-            value: 0,
-        },
-        TextWritten::TooManyPairs => NumberedSize {
-            number: 2,
-            value: 0,
-        },
-        TextWritten::TooShort(needed) => NumberedSize {
-            number: 72,
-            value: needed,
-        },
+    match r {
+        Ok(value) => NumberedSize { number: 0, value },
+        Err(e) => e.refusal(),
     }
 }

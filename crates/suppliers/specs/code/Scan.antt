@@ -1,12 +1,10 @@
 -- How a text is gone through: its first line, whether it is that of a pair, and where it ends.
-use Rattle.std.specs.Prelude.{ℕ, ◌+◌, ◌-◌, ◌<◌, ◌≤◌, Bool, false, cond, ◌&&◌, List, [], ◌∷◌, ◌≡◌, eqb, length, get_or, drop}
+use Rattle.std.specs.Prelude.{ℕ, ◌+◌, ◌-◌, ◌<◌, ◌≤◌, Bool, false, cond, ◌&&◌, List, [], ◌∷◌, ◌≡◌, eqb, length, get_or, drop, Option, Some, None}
 use Rattle.decimal.specs.Number.{digits_in, after_digits, is_number}
-use Rattle.prelude.specs.Answers.{Answer, given, refused, refuse_first, over}
+use Rattle.prelude.specs.Answers.{Answer, given, refuse_first, over}
 use Rattle.prelude.specs.Pairs.{codes_of, schedules_of}
 use Rattle.suppliers.specs.Text.{lines_of, after_comma, pairs_of_text}
 use Rattle.suppliers.specs.Lists.{faulty_line}
-use Rattle.suppliers.specs.declared.scan.Judged.{Judged}
-use Rattle.suppliers.specs.declared.scan.Judged.TheVariants.{Lines, Faulty}
 
 -- the first line of a text, with its newline byte, and what follows it
 unfoldable pub first_line : List ℕ → List ℕ
@@ -37,23 +35,20 @@ pub record NewlineFrom (text : List ℕ) (at : ℕ) : Type 0 where
   pub later : at ≤ place
   pub newline : get_or text place 0 ≡ 10
 
--- where the line of a pair from `at` on ends; `at` where there is none
-unfoldable pub line_end : List ℕ → ℕ → ℕ
+-- where the line of a pair from `at` on ends, if there is one
+unfoldable pub line_end : List ℕ → ℕ → Option ℕ
 unfolding first_line begins_line
-line_end text at = cond (begins_line (drop at text)) (at + length (first_line (drop at text))) at
+line_end text at = cond (begins_line (drop at text)) (Some (at + length (first_line (drop at text)))) None
 
 -- the answer of judging all lines: their number, or 71
 unfoldable pub judge_of : List ℕ → Answer
 unfolding lines_of faulty_line
 judge_of text = refuse_first (length (lines_of text)) (faulty_line text) 71 (given (length (lines_of text) ∷ []))
 
-abbrev pub judged_of : Judged → Answer
-judged_of (Lines n) = given (n ∷ [])
-judged_of (Faulty line) = refused 71 line
-
--- no line is faulty, and there is a place for the pair of each
-pub record Fillable (text codes schedules : List ℕ) : Type 0 where
-  pub lines : (i : ℕ) → i < length (lines_of text) → faulty_line text i ≡ false
+-- there are so many lines, none of them faulty, and a place for the pair of each
+pub record Fillable (text : List ℕ) (lines : ℕ) (codes schedules : List ℕ) : Type 0 where
+  pub counted : lines ≡ length (lines_of text)
+  pub right : (i : ℕ) → i < length (lines_of text) → faulty_line text i ≡ false
   pub codes_room : length (lines_of text) ≤ length codes
   pub schedules_room : length (lines_of text) ≤ length schedules
 

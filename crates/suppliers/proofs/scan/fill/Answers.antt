@@ -2,52 +2,52 @@ use native.Mathlib.Omega.{arith}
 use Rattle.suppliers.proofs.Filling.{filling_none, filling_all, code_inside, schedule_inside, next}
 use Rattle.suppliers.proofs.scan.fill.Goals as goal
 
-pub loop-at-init : goal.loop-at-init
-loop-at-init c =
+pub loop-i-init : goal.loop-i-init
+loop-i-init c =
     filling_none _ _ _
 
 pub scan_number-code-requires : goal.scan_number-code-requires
 scan_number-code-requires c =
-    code_inside c.requires c.loop-at.invariant c.loop-at-test.true
+    code_inside c.requires c.loop-i.invariant c.loop-i-test.true
 
 pub overflow_add-code : goal.overflow_add-code
 overflow_add-code c =
-    omega (arith, c.scan_number-code.ensures.end, (code_inside c.requires c.loop-at.invariant c.loop-at-test.true).inside)
+    omega (arith, c.scan_number-code.ensures.end, (code_inside c.requires c.loop-i.invariant c.loop-i-test.true).inside)
 
 pub scan_number-schedule-requires : goal.scan_number-schedule-requires
 scan_number-schedule-requires c =
-    schedule_inside c.requires c.loop-at.invariant c.loop-at-test.true c.scan_number-code.ensures
+    schedule_inside c.requires c.loop-i.invariant c.loop-i-test.true c.scan_number-code.ensures
 
 pub overflow_cast-codes : goal.overflow_cast-codes
 overflow_cast-codes c =
-    let known = next c.requires c.loop-at.invariant c.loop-at-test.true c.scan_number-code.ensures c.scan_number-schedule.ensures in
+    let known = next c.requires c.loop-i.invariant c.loop-i-test.true c.scan_number-code.ensures c.scan_number-schedule.ensures in
     omega (arith, known.code_word, known.schedule_word)
 
 pub bounds-codes-i : goal.bounds-codes-i
 bounds-codes-i c =
-    let known = next c.requires c.loop-at.invariant c.loop-at-test.true c.scan_number-code.ensures c.scan_number-schedule.ensures in
+    let known = next c.requires c.loop-i.invariant c.loop-i-test.true c.scan_number-code.ensures c.scan_number-schedule.ensures in
     omega (arith, known.codes_room)
 
 pub overflow_cast-schedules : goal.overflow_cast-schedules
 overflow_cast-schedules c =
-    let known = next c.requires c.loop-at.invariant c.loop-at-test.true c.scan_number-code.ensures c.scan_number-schedule.ensures in
+    let known = next c.requires c.loop-i.invariant c.loop-i-test.true c.scan_number-code.ensures c.scan_number-schedule.ensures in
     omega (arith, known.code_word, known.schedule_word)
 
 pub bounds-schedules-i : goal.bounds-schedules-i
 bounds-schedules-i c =
-    let known = next c.requires c.loop-at.invariant c.loop-at-test.true c.scan_number-code.ensures c.scan_number-schedule.ensures in
+    let known = next c.requires c.loop-i.invariant c.loop-i-test.true c.scan_number-code.ensures c.scan_number-schedule.ensures in
     omega (arith, known.schedules_room)
 
 pub overflow_add-at : goal.overflow_add-at
 overflow_add-at c =
-    let known = next c.requires c.loop-at.invariant c.loop-at-test.true c.scan_number-code.ensures c.scan_number-schedule.ensures in
+    let known = next c.requires c.loop-i.invariant c.loop-i-test.true c.scan_number-code.ensures c.scan_number-schedule.ensures in
     omega (arith, known.inside)
 
-pub loop-at-preserved : goal.loop-at-preserved
-loop-at-preserved c =
-    let known = next c.requires c.loop-at.invariant c.loop-at-test.true c.scan_number-code.ensures c.scan_number-schedule.ensures in
+pub loop-i-preserved : goal.loop-i-preserved
+loop-i-preserved c =
+    let known = next c.requires c.loop-i.invariant c.loop-i-test.true c.scan_number-code.ensures c.scan_number-schedule.ensures in
     known.filling
 
 pub returns : goal.returns
 returns c =
-    filling_all c.requires c.loop-at.invariant c.loop-at-test.false
+    filling_all c.requires c.loop-i.invariant (omega arith)
