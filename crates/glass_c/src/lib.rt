@@ -55,13 +55,13 @@ pub fn glass_remove(words: &[u32], code: u32, second: &mut [u32]) -> Numbered
 pub fn glass_read_list(text: &[u8], codes: &mut [u32], schedules: &mut [u32]) -> NumberedSize
     ensures { ReadListShown text.now codes.old schedules.old result codes.new schedules.new }
 {
-    suppliers::numbered::numbered_read(suppliers::read::read_list(text, codes, schedules))
+    suppliers::numbered::size_in_numbers(suppliers::read::read_list(text, codes, schedules))
 }
 
 pub fn glass_write_list(codes: &[u32], schedules: &[u32], text: &mut [u8]) -> NumberedSize
     ensures { WriteListShown most_pairs codes.now schedules.now text.old result text.new }
 {
-    suppliers::numbered::numbered_written(suppliers::write::write_list(codes, schedules, text))
+    suppliers::numbered::size_in_numbers(suppliers::write::write_list(codes, schedules, text))
 }
 
 pub fn glass_generate(length: usize, codes: &mut [u32], schedules: &mut [u32]) -> Numbered

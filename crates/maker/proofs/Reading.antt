@@ -7,6 +7,7 @@ use mathlib.Core.Path.{◌≡◌, refl, sym, ◌∙◌}
 use native.Mathlib.Omega.{arith}
 use lib.Dec.{eqb, ltb}
 use lib.ListN.{length, take, length-map}
+use Rattle.std.specs.Prelude.{Result, Ok, Err}
 use Rattle.hash.proofs.Indicators.{true_or_false}
 use Rattle.prelude.specs.Answers.{Answer, given, refused, some, first_of}
 use Rattle.prelude.specs.Numbers.{value_of}
@@ -16,8 +17,8 @@ use Rattle.prelude.proofs.Refusals.{Refusal, GivenOrRefused, refusals_given_or_r
 use Rattle.suppliers.specs.Text.{lines_of, starting_with, pairs_of_text}
 use Rattle.suppliers.specs.Lists.{faulty_line, read_list_of, ListRead}
 use Rattle.suppliers.specs.Answered.{text_read_of}
-use Rattle.suppliers.specs.declared.read.TextRead.{TextRead}
-use Rattle.suppliers.specs.declared.read.TextRead.TheVariants.{Pairs, FaultyLine, TooManyLines}
+use Rattle.suppliers.specs.declared.read.TextError.{TextError}
+use Rattle.suppliers.specs.declared.read.TextError.TheVariants.{FaultyLine, TooManyLines}
 use Rattle.suppliers.proofs.ReadLaws.{read_room, read_count, codes_read_lem, schedules_read_lem}
 
 -- ---- its answers
@@ -58,11 +59,11 @@ module _ (text : List ℕ) (codes schedules : ℕ) where
             ]
       ]
 
--- every case but the first is a refusal
-pub read_refuses : (read : TextRead) → ((n : ℕ) → read ≡ Pairs n → ⊥) → (number : ℕ) × (value : ℕ) × (text_read_of read ≡ refused number value)
-read_refuses (Pairs n) k = absurd (k n refl)
-read_refuses (FaultyLine line) k = (71, line, refl)
-read_refuses (TooManyLines lines) k = (72, lines, refl)
+-- an error is a refusal
+pub read_refuses : (read : Result ℕ TextError) → ((n : ℕ) → read ≡ Ok n → ⊥) → (number : ℕ) × (value : ℕ) × (text_read_of read ≡ refused number value)
+read_refuses (Ok n) k = absurd (k n refl)
+read_refuses (Err (FaultyLine line)) k = (71, line, refl)
+read_refuses (Err (TooManyLines lines)) k = (72, lines, refl)
 
 -- ---- what it leaves
 

@@ -11,8 +11,8 @@ use files::bytes_of;
 use lines::put_refused;
 use prelude::limits::ROOM;
 use prelude::numbers::wide;
-use suppliers::numbered::numbered_read;
-use suppliers::read::{TextRead, read_list};
+use suppliers::numbered::size_in_numbers;
+use suppliers::read::read_list;
 
 // Writes the bytes of the table of a list into the first lent bytes, or the line of the build's refusal, and answers how many bytes these are. The
 // bytes after them are kept.
@@ -41,8 +41,8 @@ pub fn make(text: &[u8], bytes: &mut [u8; 65536]) -> usize
     let mut codes = [0u32; ROOM];
     let mut schedules = [0u32; ROOM];
     let read = read_list(text, &mut codes, &mut schedules);
-    let TextRead::Pairs(n) = read else {
-        let refusal = numbered_read(read);
+    let Ok(n) = read else {
+        let refusal = size_in_numbers(read);
         return put_refused(bytes, 0, refusal.number, refusal.value as u32);
     };
     make_built(&codes[..n], &schedules[..n], bytes)

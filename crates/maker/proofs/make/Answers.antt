@@ -20,7 +20,7 @@ returns-then-text-gt65536 c =
 pub overflow_cast-refusal : goal.overflow_cast-refusal
 overflow_cast-refusal c =
     let value = ap value_of (answer_is most_pairs (omega arith) (omega arith) c.read_list-read.ensures) in
-    omega (arith, c.numbered_read-refusal.ensures.value_shown, value, read_value c.args.text.now most_pairs most_pairs, c.if-text-gt65536.false)
+    omega (arith, c.size_in_numbers-refusal.ensures.value_shown, value, read_value c.args.text.now most_pairs most_pairs, c.if-text-gt65536.false)
 
 pub put_refused-requires-in_default : goal.put_refused-requires-in_default
 put_refused-requires-in_default c =
@@ -29,33 +29,33 @@ put_refused-requires-in_default c =
 pub returns-in_default : goal.returns-in_default
 returns-in_default c =
     let answers = answer_is most_pairs (omega arith) (omega arith) c.read_list-read.ensures in
-    let refuses = read_refuses c.read_list-read.result c.in_default.not-Pairs in
+    let refuses = read_refuses c.read_list-read.result c.in_default.not-Ok in
     table_made _ _ _
-    (rw (refused_line_lem 65537 most_pairs c.args.text.now c.if-text-gt65536.false answers refuses c.numbered_read-refusal.ensures)
+    (rw (refused_line_lem 65537 most_pairs c.args.text.now c.if-text-gt65536.false answers refuses c.size_in_numbers-refusal.ensures)
     c.put_refused-in_default.ensures)
 
 pub slice_bounds-codes-end : goal.slice_bounds-codes-end
 slice_bounds-codes-end c =
-    let held : PairsHeld c.args.text.now most_pairs c.in-Pairs.n c.read_list-read.new.codes c.read_list-read.new.schedules = pairs_held most_pairs (omega arith) (omega arith) c.read_list-read.ensures (ap text_read_of c.in-Pairs.is) in
+    let held : PairsHeld c.args.text.now most_pairs c.in-Ok.n c.read_list-read.new.codes c.read_list-read.new.schedules = pairs_held most_pairs (omega arith) (omega arith) c.read_list-read.ensures (ap text_read_of c.in-Ok.is) in
     omega (arith, held.fits)
 
 pub slice_bounds-make_built-end : goal.slice_bounds-make_built-end
 slice_bounds-make_built-end c =
-    let held : PairsHeld c.args.text.now most_pairs c.in-Pairs.n c.read_list-read.new.codes c.read_list-read.new.schedules = pairs_held most_pairs (omega arith) (omega arith) c.read_list-read.ensures (ap text_read_of c.in-Pairs.is) in
+    let held : PairsHeld c.args.text.now most_pairs c.in-Ok.n c.read_list-read.new.codes c.read_list-read.new.schedules = pairs_held most_pairs (omega arith) (omega arith) c.read_list-read.ensures (ap text_read_of c.in-Ok.is) in
     sym held.codes_length
 
 pub slice_bounds-schedules-end : goal.slice_bounds-schedules-end
 slice_bounds-schedules-end c =
-    let held : PairsHeld c.args.text.now most_pairs c.in-Pairs.n c.read_list-read.new.codes c.read_list-read.new.schedules = pairs_held most_pairs (omega arith) (omega arith) c.read_list-read.ensures (ap text_read_of c.in-Pairs.is) in
+    let held : PairsHeld c.args.text.now most_pairs c.in-Ok.n c.read_list-read.new.codes c.read_list-read.new.schedules = pairs_held most_pairs (omega arith) (omega arith) c.read_list-read.ensures (ap text_read_of c.in-Ok.is) in
     omega (arith, held.fits)
 
 pub slice_bounds-make_built-end-2 : goal.slice_bounds-make_built-end-2
 slice_bounds-make_built-end-2 c =
-    let held : PairsHeld c.args.text.now most_pairs c.in-Pairs.n c.read_list-read.new.codes c.read_list-read.new.schedules = pairs_held most_pairs (omega arith) (omega arith) c.read_list-read.ensures (ap text_read_of c.in-Pairs.is) in
+    let held : PairsHeld c.args.text.now most_pairs c.in-Ok.n c.read_list-read.new.codes c.read_list-read.new.schedules = pairs_held most_pairs (omega arith) (omega arith) c.read_list-read.ensures (ap text_read_of c.in-Ok.is) in
     sym held.schedules_length
 
 pub returns : goal.returns
 returns c =
-    let held : PairsHeld c.args.text.now most_pairs c.in-Pairs.n c.read_list-read.new.codes c.read_list-read.new.schedules = pairs_held most_pairs (omega arith) (omega arith) c.read_list-read.ensures (ap text_read_of c.in-Pairs.is) in
+    let held : PairsHeld c.args.text.now most_pairs c.in-Ok.n c.read_list-read.new.codes c.read_list-read.new.schedules = pairs_held most_pairs (omega arith) (omega arith) c.read_list-read.ensures (ap text_read_of c.in-Ok.is) in
     table_made _ _ _
     (rw (built_bytes 65537 most_pairs c.args.text.now c.if-text-gt65536.false held) c.make_built.ensures)
