@@ -1,9 +1,9 @@
 -- The refusals of a list of pairs (document 01, "Build", 1 to 5), for any prime p and limit on the pairs.
-use Rattle.std.specs.Prelude.{ℕ, ◌-◌, Bool, not, List, [], eqb, ltb, length, get_or}
+use Rattle.std.specs.Prelude.{ℕ, ◌-◌, Bool, not, List, [], eqb, ltb, length, get_or, Result, Ok, Err}
 use Rattle.prelude.specs.Answers.{Answer, given, refused, refuse, refuse_first, outside}
 use Rattle.repeats.specs.Repeated.{repeated}
-use Rattle.lists.specs.declared.list.ListAnswer.{ListAnswer}
-use Rattle.lists.specs.declared.list.ListAnswer.TheVariants as Case
+use Rattle.lists.specs.declared.list.ListError.{ListError}
+use Rattle.lists.specs.declared.list.ListError.TheVariants.{LengthsDiffer, TooManyPairs, BadCode, BadSchedule, Repeated}
 
 -- conditions 3 and 4 of the pair with index i: its code or schedule out of range
 unfoldable pub bad_code : ℕ → List ℕ → ℕ → Bool
@@ -29,11 +29,15 @@ list_or p limit codes schedules rest =
     (refuse_first (length codes) (repeated codes) 5
     rest)))
 
--- the paper's number for each case of a list's answer; a valid list has no value of its own
-abbrev pub listed_of : ListAnswer → Answer
-listed_of Case.Valid = given []
-listed_of Case.LengthsDiffer = refused 1 0
-listed_of Case.TooManyPairs = refused 2 0
-listed_of (Case.BadCode i) = refused 3 i
-listed_of (Case.BadSchedule i) = refused 4 i
-listed_of (Case.Repeated i) = refused 5 i
+-- the paper's number for each error of a list
+abbrev pub list_error_of : ListError → Answer
+list_error_of LengthsDiffer = refused 1 0
+list_error_of TooManyPairs = refused 2 0
+list_error_of (BadCode i) = refused 3 i
+list_error_of (BadSchedule i) = refused 4 i
+list_error_of (Repeated i) = refused 5 i
+
+-- what validating a list answers; a valid list has no value of its own
+abbrev pub listed_of : Result Unit ListError → Answer
+listed_of (Ok valid) = given []
+listed_of (Err e) = list_error_of e

@@ -2,5 +2,4 @@
 #![tactic(auto)]
 
 pub mod list;
-pub mod numbered;
 mod range;

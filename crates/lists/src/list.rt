@@ -2,15 +2,16 @@
 ghost use Rattle.std.specs.Prelude.{◌≤◌, [], ◌≡◌};
 ghost use Rattle.prelude.specs.Answers.{given};
 ghost use Rattle.prelude.specs.Limits.{room};
-ghost use Rattle.lists.specs.List.{list_or, listed_of};
+ghost use Rattle.lists.specs.List.{list_or, listed_of, list_error_of};
 
 use crate::range::first_outside;
+use prelude::answers::{Numbered, Refusal};
+use prelude::numbers::wide;
 use repeats::first_repeated;
 
-#[derive(Clone, Copy)]
-pub enum ListAnswer {
-    // none of 1 to 5 holds
-    Valid,
+// Why a list is not valid: the first of 1 to 5 that holds.
+#[derive(Clone, Copy, Debug, PartialEq, Eq)]
+pub enum ListError {
     // 1
     LengthsDiffer,
     // 2
@@ -23,29 +24,55 @@ pub enum ListAnswer {
     Repeated(u32),
 }
 
+impl Refusal for ListError {
+    ghost refusal_of = { list_error_of };
+
+    fn refusal(self) -> Numbered {
+        match self {
+            ListError::LengthsDiffer => Numbered {
+                number: 1,
+                value: 0,
+            },
+            ListError::TooManyPairs => Numbered {
+                number: 2,
+                value: 0,
+            },
+            ListError::BadCode(i) => Numbered {
+                number: 3,
+                value: i,
+            },
+            ListError::BadSchedule(i) => Numbered {
+                number: 4,
+                value: i,
+            },
+            ListError::Repeated(i) => Numbered {
+                number: 5,
+                value: i,
+            },
+        }
+    }
+}
+
 // Whether a list is valid, for any prime and limit on the pairs; otherwise the first of 1 to 5 that holds. Each test is over all pairs before the next.
-pub fn validate(p: u32, limit: u32, codes: &[u32], schedules: &[u32]) -> ListAnswer
+pub fn validate(p: u32, limit: u32, codes: &[u32], schedules: &[u32]) -> Result<(), ListError>
     requires { (1 ≤ p) × (limit ≤ room) }
     ensures { listed_of result ≡ list_or p limit codes.now schedules.now (given []) }
 {
     let n = codes.len();
     if n != schedules.len() {
-        return ListAnswer::LengthsDiffer;
+        return Err(ListError::LengthsDiffer);
     }
-    if (limit as usize) < n {
-        return ListAnswer::TooManyPairs;
+    if wide(limit) < n {
+        return Err(ListError::TooManyPairs);
     }
-    let code = first_outside(p - 1, codes);
-    if code < n {
-        return ListAnswer::BadCode(code as u32);
+    if let Some(i) = first_outside(p - 1, codes) {
+        return Err(ListError::BadCode(i as u32));
     }
-    let schedule = first_outside(999, schedules);
-    if schedule < n {
-        return ListAnswer::BadSchedule(schedule as u32);
+    if let Some(i) = first_outside(999, schedules) {
+        return Err(ListError::BadSchedule(i as u32));
     }
-    let again = first_repeated(codes);
-    if again < n {
-        return ListAnswer::Repeated(again as u32);
+    if let Some(i) = first_repeated(codes) {
+        return Err(ListError::Repeated(i as u32));
     }
-    ListAnswer::Valid
+    Ok(())
 }

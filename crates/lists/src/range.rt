@@ -1,22 +1,15 @@
 // Numbers out of range (refusals 3 and 4).
-ghost use Rattle.std.specs.Prelude.{◌≡◌, length, get_or};
-ghost use Rattle.prelude.specs.Answers.{first_of, outside};
+ghost use Rattle.std.specs.Prelude.{◌≡◌, position};
+ghost use Rattle.prelude.specs.Answers.{outside};
 
 use prelude::numbers::{outside, some_outside};
 
-// The first number of a list that is not from 1 to high, or the list's length.
-pub(crate) fn first_outside(high: u32, list: &[u32]) -> usize
-    ensures { result ≡ first_of (length list.now) (λ i. outside 1 high (get_or list.now i 0)) }
+// The index of the first number of a list that is not from 1 to high. Whether there is one is told branch-free first.
+pub(crate) fn first_outside(high: u32, list: &[u32]) -> Option<usize>
+    ensures { result ≡ position (outside 1 high) list.now }
 {
     if !some_outside(1, high, list) {
-        return list.len();
+        return None;
     }
-    let mut j = 0;
-    while j < list.len() {
-        if outside(1, high, list[j]) {
-            return j;
-        }
-        j += 1;
-    }
-    j
+    list.iter().position(|&x| outside(1, high, x))
 }

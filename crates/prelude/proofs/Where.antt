@@ -1,11 +1,14 @@
 -- `first_where`: the first index of which a test holds, if there is one. A loop that looks for it keeps `Below test i`.
 use Prim.Native.Nat.{ℕ, ◌<◌}
-use mathlib.Core.Bool.{Bool, true, false}
+use mathlib.Core.Bool.{Bool, true, false, cond}
+use mathlib.Core.List.{List}
 use mathlib.Core.Logic.{⊎_elim}
-use mathlib.Core.Path.{◌≡◌, refl}
+use mathlib.Core.Path.{◌≡◌, refl, sym, ap, ◌∙◌}
 use native.Mathlib.Omega.{arith}
 use borrow.Author.Tests.{lt-ltb, le-ltb, ltb-true}
-use Rattle.std.specs.Prelude.{Some, None}
+use lib.ListN.{length, get_or}
+use Rattle.std.specs.Prelude.{Option, Some, None, position}
+use Rattle.std.proofs.lemmas.List.Sums.{position_or_len_is}
 use Rattle.prelude.specs.Answers.{Answer, refused, refuse_first, first_of, some, first_where}
 use Rattle.hash.proofs.Indicators.{true_or_false}
 use Rattle.prelude.proofs.First.{First, Below, first_is, first_found, first_none, none_refused}
@@ -46,3 +49,21 @@ module _ (n : ℕ) (test : ℕ → Bool) where
 
   pub where_next : (number : ℕ) (rest : Answer) → first_where n test ≡ None → refuse_first n test number rest ≡ rest
   where_next number rest e = rw (where_not e) refl
+
+-- where the test holds of none, there is no first one
+pub none_where : (n : ℕ) (test : ℕ → Bool) → some n test ≡ false → first_where n test ≡ None
+none_where n test e = rw e refl
+
+-- a search that did not find one
+pub where_default : (n : ℕ) (test : ℕ → Bool) {o : Option ℕ} → o ≡ first_where n test → ((i : ℕ) → o ≡ Some i → ⊥) → some n test ≡ false
+where_default n test is not =
+    ⊎_elim
+    (λ t. absurd (not (first_of n test) (is ∙ ap (λ (b : Bool). cond b (Some (first_of n test)) None) t)))
+    (λ f. f)
+    (true_or_false (some n test))
+
+-- what `position` gives, where the test is of the elements
+pub where_position : {X : Type 0} (p : X → Bool) (xs : List X) (d : X) → position p xs ≡ first_where (length xs) (λ i. p (get_or xs i d))
+where_position {X} p xs d =
+    let r : First (length xs) (λ (i : ℕ). p (get_or xs i d)) _ = first_is (length xs) (λ i. p (get_or xs i d)) in
+    rw (position_or_len_is p xs _ d r.within r.below r.holds) refl

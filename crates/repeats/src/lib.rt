@@ -2,7 +2,7 @@
 #![tactic(auto)]
 
 ghost use Rattle.std.specs.Prelude.{◌<◌, ◌≤◌, ◌≡◌, length, take};
-ghost use Rattle.prelude.specs.Answers.{first_of};
+ghost use Rattle.prelude.specs.Answers.{first_of, first_where};
 ghost use Rattle.prelude.specs.Limits.{room};
 ghost use Rattle.prelude.specs.Pairs.{among};
 ghost use Rattle.repeats.specs.Repeated.{repeated};
@@ -97,8 +97,17 @@ fn first_by_residues(codes: &[u32]) -> usize
     codes.len() + 1
 }
 
-// The first code that is equal to an earlier one, or the list's length.
-pub fn first_repeated(codes: &[u32]) -> usize
+// The first code that is equal to an earlier one.
+pub fn first_repeated(codes: &[u32]) -> Option<usize>
+    requires { length codes.now ≤ room }
+    ensures { result ≡ first_where (length codes.now) (repeated codes.now) }
+{
+    let n = codes.len();
+    let i = first(codes);
+    if i < n { Some(i) } else { None }
+}
+
+fn first(codes: &[u32]) -> usize
     requires { length codes.now ≤ room }
     ensures { result ≡ first_of (length codes.now) (repeated codes.now) }
 {

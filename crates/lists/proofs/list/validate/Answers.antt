@@ -1,38 +1,41 @@
 -- `lists::list::validate` meets its contract: its tests are the definition's, in the same order.
-use Rattle.lists.specs.List.{bad_code, bad_schedule}
-use Rattle.lists.proofs.Refusals.{passes, lengths_differ, too_many_pairs, bad_code_lem, bad_schedule_lem, repeated_code, none_holds}
-use Rattle.lists.proofs.list.validate.Goals as goal
+use mathlib.Core.Path.{sym, ◌∙◌}
 use Rattle.std.proofs.Common.{rules}
+use Rattle.prelude.proofs.Where.{where_position, where_some, where_default}
+use Rattle.lists.specs.List.{bad_code, bad_schedule}
+use Rattle.lists.proofs.Refusals.{lengths_differ, too_many_pairs, bad_code_lem, bad_schedule_lem, repeated_code, none_holds}
+use Rattle.lists.proofs.list.validate.Goals as goal
 
 pub returns-then-n-schedules : goal.returns-then-n-schedules
 returns-then-n-schedules c = lengths_differ _ _ _ _ _ c.if-n-schedules.true
 
-pub returns-then-limit-n : goal.returns-then-limit-n
-returns-then-limit-n c = search (rules, too_many_pairs)
+pub returns-then-wide-n : goal.returns-then-wide-n
+returns-then-wide-n c = search (rules, too_many_pairs)
 
-pub returns-then-code-n : goal.returns-then-code-n
+pub returns-in-Some : goal.returns-in-Some
 unfolding bad_code
-returns-then-code-n c = bad_code_lem _ _ _ _ _ c.if-n-schedules.false c.if-limit-n.false _ c.first_outside-code.ensures c.if-code-n.true
+returns-in-Some c =
+    bad_code_lem _ _ _ _ _ c.if-n-schedules.false (search rules) _ (where_some _ _ (sym (c.first_outside.ensures ∙ where_position _ _ 0) ∙ c.in-Some.is))
 
-pub returns-then-schedule-n : goal.returns-then-schedule-n
+pub returns-in-Some-first_outside : goal.returns-in-Some-first_outside
 unfolding bad_code bad_schedule
-returns-then-schedule-n c =
-    bad_schedule_lem _ _ _ _ _ c.if-n-schedules.false c.if-limit-n.false
-    (passes _ c.first_outside-code.ensures c.if-code-n.false)
-    _ c.first_outside-schedule.ensures c.if-schedule-n.true
+returns-in-Some-first_outside c =
+    bad_schedule_lem _ _ _ _ _ c.if-n-schedules.false (search rules)
+    (where_default _ _ (c.first_outside.ensures ∙ where_position _ _ 0) c.in_default.not-Some)
+    _ (where_some _ _ (sym (c.first_outside-2.ensures ∙ where_position _ _ 0) ∙ c.in-Some-first_outside.is))
 
-pub returns-then-again-n : goal.returns-then-again-n
+pub returns-in-Some-first_repeated : goal.returns-in-Some-first_repeated
 unfolding bad_code bad_schedule
-returns-then-again-n c =
-    repeated_code _ _ _ _ _ c.if-n-schedules.false c.if-limit-n.false
-    (passes _ c.first_outside-code.ensures c.if-code-n.false)
-    (passes _ c.first_outside-schedule.ensures c.if-schedule-n.false)
-    _ c.first_repeated-again.ensures c.if-again-n.true
+returns-in-Some-first_repeated c =
+    repeated_code _ _ _ _ _ c.if-n-schedules.false (search rules)
+    (where_default _ _ (c.first_outside.ensures ∙ where_position _ _ 0) c.in_default.not-Some)
+    (where_default _ _ (c.first_outside-2.ensures ∙ where_position _ _ 0) c.in_default-first_outside.not-Some)
+    _ (where_some _ _ (sym c.first_repeated.ensures ∙ c.in-Some-first_repeated.is))
 
 pub returns : goal.returns
 unfolding bad_code bad_schedule
 returns c =
-    none_holds _ _ _ _ _ c.if-n-schedules.false c.if-limit-n.false
-    (passes _ c.first_outside-code.ensures c.if-code-n.false)
-    (passes _ c.first_outside-schedule.ensures c.if-schedule-n.false)
-    (passes _ c.first_repeated-again.ensures c.if-again-n.false)
+    none_holds _ _ _ _ _ c.if-n-schedules.false (search rules)
+    (where_default _ _ (c.first_outside.ensures ∙ where_position _ _ 0) c.in_default.not-Some)
+    (where_default _ _ (c.first_outside-2.ensures ∙ where_position _ _ 0) c.in_default-first_outside.not-Some)
+    (where_default _ _ c.first_repeated.ensures c.in_default-first_repeated.not-Some)
