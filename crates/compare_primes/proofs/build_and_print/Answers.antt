@@ -8,7 +8,7 @@ use Rattle.compare_primes.proofs.build_and_print.Goals as goal
 
 pub write_valid-requires : goal.write_valid-requires
 write_valid-requires c =
-    let valid : Valid c.args.p most_pairs c.args.codes.now c.args.schedules.now = passes_valid _ _ _ _ (sym c.validate-listed.ensures ∙ ap listed_of c.in-Valid.is) in
+    let valid : Valid c.args.p most_pairs c.args.codes.now c.args.schedules.now = passes_valid _ _ _ _ (sym c.validate.ensures ∙ ap listed_of c.in-Ok.is) in
     record {
       searchable = record { prime = c.requires; valid = valid.codes_valid; few = valid.few };
       schedules_len = valid.parallel;
