@@ -5,7 +5,7 @@ use Prim.Native.Nat.{ℕ, ◌+◌, ◌*◌, ◌-◌, ◌<◌, ◌≤◌}
 use native.Mathlib.Decide.{ℕ_discrete, dec_lt}
 use native.Mathlib.Nat.{mul-le-mul_right}
 use native.Mathlib.Omega.{arith}
-use mathlib.Core.Bool.{Bool, true, false, cond, true≢false}
+use mathlib.Core.Bool.{Bool, true, false, cond}
 use mathlib.Core.List.{List, [], ◌∷◌}
 use mathlib.Core.Path.{◌≡◌, refl, sym, ap, ◌∙◌}
 use borrow.Author.Tests.{le-leb, lt-leb, eq-eqb, ne_eqb}
@@ -13,13 +13,14 @@ use lib.Dec.{eqb}
 use lib.ListN.{length, get_or, drop, set, replicate, length-set, length-drop, get_or-replicate, length-replicate}
 use lib.Seq.{drop-length, get_or-set_same, get_or-set_other}
 use Rattle.hash.specs.Hash.{hash_of, load, together, cells}
+use Rattle.hash.specs.code.Contract.{Hashed}
 use Rattle.hash.proofs.Counting.{load_le, cells_is}
 use Rattle.hash.proofs.Indicators.{indicator, indicator_eq, indicator_ne, indicator_square}
 use Rattle.prelude.specs.Limits.{room}
 use Rattle.prelude.specs.Tabulate.{tabulate}
 use Rattle.prelude.proofs.Tabulate.{tabulate_is}
-use Rattle.search.specs.declared.blocks.Count.{Count}
-use Rattle.search.specs.declared.blocks.Count.TheVariants.{Fits, TooMany}
+use Rattle.std.specs.Prelude.{Some, None}
+use Rattle.std.proofs.lemmas.Option.{none-some}
 use Rattle.search.specs.code.Blocks.{count_of, Blocked, Counted}
 use Rattle.jumps.proofs.Ends.{drop_before, together_drop}
 
@@ -80,9 +81,15 @@ counting_start {p} {k} {codes} {blocks} {counts} {n} some same e zeros =
 
 -- the next code is counted in its block t
 module _
-    {p k : ℕ} {codes : List ℕ} {i : ℕ} {blocks counts : List ℕ} {c : ℕ} (h : Counting p k codes i blocks counts c) (pos : 0 < i) (t : ℕ)
-    (own : t ≡ hash_of p k (length codes) (get_or codes (i - 1) 0)) (l : t < length codes)
+    {p k : ℕ} {codes : List ℕ} {i : ℕ} {blocks counts : List ℕ} {c : ℕ} (h : Counting p k codes i blocks counts c) (pos : 0 < i) {n t : ℕ}
+    (all : n ≡ length codes) (hashed : Hashed p k n (get_or codes (i - 1) 0) t)
   where
+    own : t ≡ hash_of p k (length codes) (get_or codes (i - 1) 0)
+    own = rw (← all) hashed.value
+
+    l : t < length codes
+    l = omega (arith, hashed.range)
+
     pub counting_load : get_or counts t 0 ≤ length codes
     counting_load = omega (arith, h.loads t l, load_le p k (length codes) t (drop i codes), length-drop i codes)
 
@@ -121,9 +128,9 @@ module _
           bound = fits;
         }
 
-    pub counting_over : 3 * length codes < c + (2 * get_or counts t 0 + 1) + 2 → count_of p k codes ≡ TooMany
+    pub counting_over : 3 * length codes < c + (2 * get_or counts t 0 + 1) + 2 → count_of p k codes ≡ None
     counting_over over =
-        ap (λ (b : Bool). cond b (Fits (cells p k codes)) TooMany)
+        ap (λ (b : Bool). cond b (Some (cells p k codes)) None)
         (lt-leb (cells p k codes + 2) (3 * length codes)
         (omega (arith, counting_next, cells_is p k codes (omega arith), together_drop p k (length codes) codes (i - 1), h.left)))
 
@@ -133,23 +140,18 @@ module _
     none_left : i ≡ 0
     none_left = omega arith
 
-    pub counting_all : 0 < length codes → count_of p k codes ≡ Fits c
+    pub counting_all : 0 < length codes → count_of p k codes ≡ Some c
     counting_all some =
         let e : cells p k codes ≡ c =
         omega
         (arith, h.count, cells_is p k codes some, ap (λ (j : ℕ). together p k (length codes) (drop j codes)) none_left) in
-        ap (λ (b : Bool). cond b (Fits (cells p k codes)) TooMany)
+        ap (λ (b : Bool). cond b (Some (cells p k codes)) None)
         (le-leb (cells p k codes + 2) (3 * length codes) (omega (arith, h.bound)))
-        ∙ ap Fits e
+        ∙ ap Some e
 
     pub counting_blocked : Blocked p k codes blocks counts
     counting_blocked = blocked_each (h.blocked, h.sized) (λ t l. h.blocks_are t (omega arith) l) (rw none_left at h.loads)
 
 -- where the cells are too many nothing is left
-fitting : Count → Bool
-fitting (Fits c) = true
-fitting TooMany = false
-
-pub over_leaves : {p k : ℕ} {codes blocks counts : List ℕ} → count_of p k codes ≡ TooMany → Counted p k codes TooMany blocks counts
-unfolding fitting
-over_leaves over = record { answers = sym over; leaves = λ c fits. absurd (true≢false (sym (ap fitting fits))) }
+pub over_leaves : {p k : ℕ} {codes blocks counts : List ℕ} → count_of p k codes ≡ None → Counted p k codes None blocks counts
+over_leaves over = record { answers = sym over; leaves = λ c fits. absurd (none-some c fits) }

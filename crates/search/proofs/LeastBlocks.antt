@@ -12,8 +12,7 @@ use Rattle.hash.proofs.Counting.{cells_is}
 use Rattle.hash.proofs.Indicators.{true_or_false}
 use Rattle.table.specs.TwoLevel.{blocks_multiplier}
 use Rattle.table.proofs.Chosen.{blocks_least}
-use Rattle.search.specs.declared.blocks.Count.{Count}
-use Rattle.search.specs.declared.blocks.Count.TheVariants.{Fits, TooMany}
+use Rattle.std.specs.Prelude.{Option, Some, None}
 use Rattle.search.specs.code.Searchable.{Searchable}
 use Rattle.search.specs.code.Blocks.{keeps, count_of, LeastBlocks}
 use Rattle.jumps.specs.code.Jumps.{Passed}
@@ -27,24 +26,24 @@ pub blocks_start : {p : ℕ} {codes : List ℕ} → Searchable p codes → 0 < l
 blocks_start {p} {codes} list some = trying_start (blocks_least list.prime codes list.valid some)
 
 -- what the counting under k answers: the least k with its cells, or that the next one is to be tried
-module _ {p k : ℕ} (codes : List ℕ) {count : Count} (h : TryingBlocks p codes k) (answer : count ≡ count_of p k codes) where
-  pub blocks_found : {c : ℕ} → count ≡ Fits c → LeastBlocks p codes k c
+module _ {p k : ℕ} (codes : List ℕ) {count : Option ℕ} (h : TryingBlocks p codes k) (answer : count ≡ count_of p k codes) where
+  pub blocks_found : {c : ℕ} → count ≡ Some c → LeastBlocks p codes k c
   blocks_found {c} fits =
       elim (true_or_false (keeps p codes k)) [
         | inl e ↦
-            let kept : count_of p k codes ≡ Fits (cells p k codes) = rw e in
+            let kept : count_of p k codes ≡ Some (cells p k codes) = rw e in
             record { multiplier = trying_found h e; cells = cc }
-        | inr e ↦ let over : count_of p k codes ≡ TooMany = rw e in record { multiplier = cc; cells = cc }
+        | inr e ↦ let over : count_of p k codes ≡ None = rw e in record { multiplier = cc; cells = cc }
       ]
 
-  pub blocks_more : ((c : ℕ) → count ≡ Fits c → ⊥) → TryingBlocks p codes (k + 1)
+  pub blocks_more : ((c : ℕ) → count ≡ Some c → ⊥) → TryingBlocks p codes (k + 1)
   blocks_more over = trying_more h fails
     where
       fails : keeps p codes k ≡ false
       fails =
           elim (true_or_false (keeps p codes k)) [
             | inl e ↦
-                let kept : count_of p k codes ≡ Fits (cells p k codes) = rw e in
+                let kept : count_of p k codes ≡ Some (cells p k codes) = rw e in
                 absurd (over (cells p k codes) (answer ∙ kept))
             | inr e ↦ e
           ]

@@ -15,7 +15,7 @@ use Rattle.prelude.proofs.Tabulate.{tabulate_length}
 use Rattle.table.proofs.Chosen.{cells_least}
 use Rattle.search.specs.code.Searchable.{Searchable}
 use Rattle.prelude.specs.Limits.{room}
-use Rattle.search.specs.code.Cells.{square, separates, filled_by, Unplaced, Placing, Tried, Separated}
+use Rattle.search.specs.code.Cells.{square, separates, filled_by, Unplaced, Placing, Tried, Separated, Untried}
 use Rattle.jumps.specs.code.Jumps.{Passed}
 use Rattle.search.proofs.Tries.{Trying, trying_start, trying_more, trying_skip, trying_found}
 use Rattle.search.proofs.Places.{placing_all}
@@ -57,6 +57,13 @@ TryingCells p block q = Trying (separates p block) p (cells_multiplier p block) 
 
 pub cells_start : {p : ℕ} {block : List ℕ} → Searchable p block → TryingCells p block 1
 cells_start {p} {block} codes = trying_start (cells_least codes.prime block codes.valid)
+
+-- the same of one that is not past the least multiplier
+pub cells_untried : {p q : ℕ} {block : List ℕ} → Searchable p block → Untried p block q → TryingCells p block q
+cells_untried {p} {q} {block} codes h = record { least = cells_least codes.prime block codes.valid; from_one = h.from_one; upto = h.upto }
+
+pub untried : {p q : ℕ} {block : List ℕ} → TryingCells p block q → Untried p block q
+untried h = record { from_one = h.from_one; upto = h.upto }
 
 -- one cell is the place of every code, by any multiplier
 pub one_cell : (p q a : ℕ) → hash_of p q 1 a ≡ 0

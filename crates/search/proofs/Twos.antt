@@ -3,22 +3,28 @@ use Prim.Native.Nat.{ℕ, ◌+◌, ◌*◌, ◌%◌, ◌<◌}
 use native.Mathlib.Decide.{dec_lt}
 use native.Mathlib.Nat.{one-mul, mod-eq_of_lt}
 use native.Mathlib.Omega.{arith}
-use mathlib.Core.Bool.{Bool, true, false}
+use mathlib.Core.Bool.{Bool, true, false, not}
 use mathlib.Core.List.{[], ◌∷◌}
 use mathlib.Core.Logic.{inl, inr}
-use mathlib.Core.Path.{◌≡◌, sym, ap, ap₂, ◌∙◌}
+use mathlib.Core.Path.{◌≡◌, refl, sym, ap, ap₂, ◌∙◌}
 use borrow.Author.Tests.{eq-eqb, ne_eqb}
 use lib.Dec.{eqb}
+use mir.Val.{bool_byte}
 use Rattle.hash.specs.Hash.{hash_of, load, together}
 use Rattle.hash.proofs.Indicators.{true_or_false, indicator, indicator_sym, indicator_true, indicator_false}
 use Rattle.search.specs.code.Searchable.{Searchable}
-use Rattle.search.specs.code.Cells.{separates, Separated}
-use Rattle.search.proofs.LeastCells.{TryingCells, cells_start, cells_separated}
+use Rattle.search.specs.code.Cells.{separates}
+use Rattle.search.proofs.LeastCells.{TryingCells, cells_start}
 use Rattle.search.proofs.Tries.{trying_more}
 
 -- q puts them in one cell
 abbrev pub meet : ℕ → ℕ → ℕ → ℕ → Bool
 meet p a b q = eqb (hash_of p q 4 a) (hash_of p q 4 b)
+
+-- a test as a number
+pub as_number : (test : Bool) → bool_byte test ≡ indicator test
+as_number true = refl
+as_number false = refl
 
 -- the multiplier 1 leaves a code as it is
 one_leaves : {p a : ℕ} → a < p → hash_of p 1 4 a ≡ a % 4
@@ -28,6 +34,15 @@ one_leaves {p} {a} l = ap (λ (x : ℕ). x % p % 4) (one-mul a) ∙ ap (λ (x : 
 two_together : (p q a b : ℕ) → together p q 4 (a ∷ b ∷ []) ≡ indicator (meet p a b q)
 unfolding together load
 two_together p q a b = omega (arith, indicator_sym (hash_of p q 4 b) (hash_of p q 4 a))
+
+-- q separates them where it does not put them in one cell
+pub two_separates : (p q a b : ℕ) → separates p (a ∷ b ∷ []) q ≡ not (meet p a b q)
+two_separates p q a b =
+    elim (true_or_false (meet p a b q)) [
+      | inl e ↦
+          rw e (ne_eqb (together p q 4 (a ∷ b ∷ [])) 0 (λ none. absurd (omega (arith, two_together p q a b, indicator_true (meet p a b q) e))))
+      | inr e ↦ rw e (eq-eqb (together p q 4 (a ∷ b ∷ [])) 0 (two_together p q a b ∙ indicator_false (meet p a b q) e))
+    ]
 
 module _ {p a b : ℕ} (codes : Searchable p (a ∷ b ∷ [])) where
   -- two codes are below p, and so is 2
@@ -50,14 +65,9 @@ module _ {p a b : ℕ} (codes : Searchable p (a ∷ b ∷ [])) where
   pub first_test : eqb (a % 4) (b % 4) ≡ meet p a b 1
   first_test = ap₂ eqb (sym (one_leaves two_below.0)) (sym (one_leaves two_below.1.0))
 
-  two_fails : (q : ℕ) → meet p a b q ≡ true → separates p (a ∷ b ∷ []) q ≡ false
-  two_fails q e =
-      ne_eqb (together p q 4 (a ∷ b ∷ [])) 0
-      (λ none. omega (arith, two_together p q a b, indicator_true (meet p a b q) e))
-
   -- one that fails has one after it
   pub two_more : {q : ℕ} → TryingCells p (a ∷ b ∷ []) q → meet p a b q ≡ true → TryingCells p (a ∷ b ∷ []) (q + 1)
-  two_more {q} h e = trying_more h (two_fails q e)
+  two_more {q} h e = trying_more h (two_separates p q a b ∙ ap not e)
 
   -- the first three are tried at once
   pub two_start :
@@ -77,8 +87,3 @@ module _ {p a b : ℕ} (codes : Searchable p (a ∷ b ∷ [])) where
               | inl f ↦ rw (one, then ∙ indicator_true (meet p a b 2) f) (two_more next f)
             ]
       ]
-
-  pub two_found : {q : ℕ} → TryingCells p (a ∷ b ∷ []) q → meet p a b q ≡ false → Separated p (a ∷ b ∷ []) q
-  two_found {q} h e =
-      cells_separated h
-      (eq-eqb (together p q 4 (a ∷ b ∷ [])) 0 (two_together p q a b ∙ indicator_false (meet p a b q) e))

@@ -1,10 +1,8 @@
 -- The least k of a list: what its code promises.
-use Rattle.std.specs.Prelude.{ℕ, ◌+◌, ◌*◌, ◌<◌, ◌≤◌, Bool, cond, List, ◌≡◌, leb, length, get_or}
+use Rattle.std.specs.Prelude.{ℕ, ◌+◌, ◌*◌, ◌<◌, ◌≤◌, Bool, cond, List, ◌≡◌, leb, length, get_or, Option, Some, None}
 use Rattle.hash.specs.Hash.{hash_of, load, cells}
 use Rattle.prelude.specs.Tabulate.{tabulate}
 use Rattle.table.specs.TwoLevel.{blocks_multiplier}
-use Rattle.search.specs.declared.blocks.Count.{Count}
-use Rattle.search.specs.declared.blocks.Count.TheVariants.{Fits, TooMany}
 use Rattle.prelude.specs.Limits.{room}
 
 -- k keeps the cells of a list at most 3n - 2
@@ -12,8 +10,8 @@ abbrev pub keeps : ℕ → List ℕ → ℕ → Bool
 keeps p codes k = leb (cells p k codes + 2) (3 * length codes)
 
 -- the cells of a list under k, where k keeps the bound
-abbrev pub count_of : ℕ → ℕ → List ℕ → Count
-count_of p k codes = cond (keeps p codes k) (Fits (cells p k codes)) TooMany
+abbrev pub count_of : ℕ → ℕ → List ℕ → Option ℕ
+count_of p k codes = cond (keeps p codes k) (Some (cells p k codes)) None
 
 -- codes to count under one multiplier, with a place for each one's block, and a count for each of as many blocks
 pub record Countable (p : ℕ) (codes blocks counts : List ℕ) : Type 0 where
@@ -34,9 +32,9 @@ pub record Blocked (p k : ℕ) (codes blocks counts : List ℕ) : Type 0 where
   pub loads_are : counts ≡ loads_of p k codes
 
 -- what a counting under k answers, and leaves where k keeps the bound
-pub record Counted (p k : ℕ) (codes : List ℕ) (answer : Count) (blocks counts : List ℕ) : Type 0 where
+pub record Counted (p k : ℕ) (codes : List ℕ) (answer : Option ℕ) (blocks counts : List ℕ) : Type 0 where
   pub answers : answer ≡ count_of p k codes
-  pub leaves : (c : ℕ) → answer ≡ Fits c → Blocked p k codes blocks counts
+  pub leaves : (c : ℕ) → answer ≡ Some c → Blocked p k codes blocks counts
 
 -- k is the least multiplier of a list, and c its cells
 pub record LeastBlocks (p : ℕ) (codes : List ℕ) (k c : ℕ) : Type 0 where

@@ -39,3 +39,8 @@ pub record Separated (p : ℕ) (block : List ℕ) (q : ℕ) : Type 0 where
   pub multiplier : q ≡ cells_multiplier p block
   pub below : q < p
   pub apart : together p q (square block) block ≡ 0
+
+-- q is not past the least multiplier of a block
+pub record Untried (p : ℕ) (block : List ℕ) (q : ℕ) : Type 0 where
+  pub from_one : 1 ≤ q
+  pub upto : q ≤ cells_multiplier p block

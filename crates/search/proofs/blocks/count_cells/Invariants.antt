@@ -1,4 +1,4 @@
--- `search::blocks::count_cells` meets its contract. The loop's invariant is `Counting`: the codes from i on are counted. The measure is i.
+-- `search::blocks::count_cells` meets its contract. The loop's invariant is `Counting`: the codes from i on are counted.
 use mathlib.Core.Path.{◌≡◌}
 use lib.ListN.{length}
 use Rattle.search.proofs.Counts.{Counting}
@@ -8,6 +8,3 @@ abbrev pub invariant-loop-i : goal.invariant-loop-i
 invariant-loop-i l =
     Counting l.h.prime l.h.multiplier l.codes l.i l.blocks l.counts l.c
     × ((length l.blocks ≡ length l.initial.blocks) × (length l.counts ≡ length l.initial.counts))
-
-abbrev pub decreases-loop-i : goal.decreases-loop-i
-decreases-loop-i l = l.i

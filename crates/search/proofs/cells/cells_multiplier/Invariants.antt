@@ -6,7 +6,7 @@ use Rattle.search.proofs.LeastCells.{TryingCells}
 use Rattle.search.proofs.cells.cells_multiplier.Given as goal
 
 abbrev pub invariant-loop-q : goal.invariant-loop-q
-invariant-loop-q l = TryingCells l.p l.block l.q × (l.cells ≡ l.initial.cells)
+invariant-loop-q l = TryingCells l.h.prime l.block l.q × (l.cells ≡ l.initial.cells)
 
 abbrev pub decreases-loop-q : goal.decreases-loop-q
-decreases-loop-q l = l.p - l.q
+decreases-loop-q l = l.h.prime - l.q

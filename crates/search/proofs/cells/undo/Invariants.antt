@@ -1,12 +1,6 @@
--- `search::cells::undo` meets its contract. The loop's invariant is `Placing`: the codes from i on are in their cells. The measure is what is
--- left of the block.
-use Prim.Native.Nat.{◌-◌}
-use lib.ListN.{length}
+-- `search::cells::undo` meets its contract. The loop's invariant is `Placing`: the codes from there on are in their cells.
 use Rattle.search.specs.code.Cells.{Placing}
 use Rattle.search.proofs.cells.undo.Given as goal
 
-abbrev pub invariant-loop-i : goal.invariant-loop-i
-invariant-loop-i l = Placing l.h.prime l.h.multiplier l.h.places l.block l.i l.cells
-
-abbrev pub decreases-loop-i : goal.decreases-loop-i
-decreases-loop-i l = length l.block - l.i
+abbrev pub invariant-loop-a : goal.invariant-loop-a
+invariant-loop-a l = Placing l.h.prime l.h.multiplier l.h.places l.codes l.a-index l.cells
