@@ -2,7 +2,6 @@
 #![tactic(auto)]
 
 ghost use Rattle.std.specs.Prelude.{◌*◌, ◌<◌, ◌≡◌, length, take, replicate, set};
-ghost use Rattle.hash.specs.code.Contract.{Ready};
 ghost use Rattle.hash.specs.Hash.{Codes};
 ghost use Rattle.search.specs.code.Cells.{square, filled_by};
 ghost use Rattle.search.specs.code.Searchable.{Searchable};
@@ -10,7 +9,6 @@ ghost use Rattle.prelude.specs.Limits.{few};
 ghost use Rattle.placing.specs.code.Block.{PlacesOf, CodesPlaced, scattered, Scattering, First, Gathered, BlockPlaced};
 
 use hash::Hasher;
-use prelude::fill::fill;
 use prelude::numbers::wide;
 use search::cells::{more_multiplier, two_multiplier};
 
@@ -27,7 +25,7 @@ fn place_two(x: usize, y: usize, first: u32, second: u32, cells: &mut [u32])
     requires { (x < 4) × ((y < 4) × (length cells.old ≡ 4)) }
     ensures { cells.new ≡ set (set (replicate 4 0) y second) x first }
 {
-    fill(cells, 0);
+    cells.fill(0);
     cells[y] = second;
     cells[x] = first;
 }
@@ -40,9 +38,7 @@ fn place_codes(h: Hasher, block: &[u32], places: &mut [u32], cells: &mut [u32])
     ensures places_of { PlacesOf h.prime h.multiplier block.now places.new }
     ensures cells_after { cells.new ≡ filled_by h.prime h.multiplier block.now block.now }
 {
-    let mut i = block.len();
-    while 0 < i {
-        i -= 1;
+    for i in (0..block.len()).rev() {
         let a = block[i];
         let t = h.place_of(a);
         cells[wide(t)] = a;
@@ -56,9 +52,7 @@ fn scatter(places: &[u32], values: &[u32], cells: &mut [u32])
     requires cells_value { cells.old ≡ replicate (length cells.old) 0 }
     ensures { cells.new ≡ scattered places.now values.now (length cells.old) }
 {
-    let mut i = places.len();
-    while 0 < i {
-        i -= 1;
+    for i in (0..places.len()).rev() {
         cells[wide(places[i])] = values[i];
     }
 }
@@ -69,37 +63,22 @@ fn take_first(cells: &mut [u32], first: &mut [u32])
     ensures cells_after { cells.new ≡ replicate (length cells.old) 0 }
     ensures first_after { first.new ≡ take (length first.old) cells.old }
 {
-    let mut i = 0;
-    while i < first.len() {
-        first[i] = cells[i];
-        cells[i] = 0;
-        i += 1;
-    }
+    let taken = &mut cells[..first.len()];
+    first.copy_from_slice(taken);
+    taken.fill(0);
 }
 
 // The codes in the first of their cells, moved to their places by the block's least multiplier. Once they are taken out, the cells are first the scratch
 // buffer of the search. `own` has room for the codes, and `places` is left with their places.
-fn move_codes(
-    p: u32,
-    reciprocal: u64,
-    own: &mut [u32],
-    places: &mut [u32],
-    cells: &mut [u32],
-) -> u32
-    requires first { First (length own.old) cells.old × Searchable p (take (length own.old) cells.old) }
-    requires cells_len { (length cells.old ≡ length own.old * length own.old) × ((0 < length own.old) × Ready p (length cells.old) reciprocal) }
+fn move_codes(h: Hasher, own: &mut [u32], places: &mut [u32], cells: &mut [u32]) -> u32
+    requires first { First (length own.old) cells.old × Searchable h.prime (take (length own.old) cells.old) }
+    requires cells_len { (h.places ≡ length cells.old) × ((length cells.old ≡ length own.old * length own.old) × (0 < length own.old)) }
     requires places_len { length places.old ≡ length own.old }
-    ensures { CodesPlaced p (take (length own.old) cells.old) result places.new cells.new }
+    ensures { CodesPlaced h.prime (take (length own.old) cells.old) result places.new cells.new }
 {
     take_first(cells, own);
-    let q = more_multiplier(p, reciprocal, own, cells);
-    let h = Hasher {
-        prime: p,
-        multiplier: q,
-        places: cells.len() as u32,
-        reciprocal,
-    };
-    place_codes(h, own, places, cells);
+    let q = more_multiplier(h, own, cells);
+    place_codes(h.with_multiplier(q), own, places, cells);
     q
 }
 
@@ -146,8 +125,8 @@ fn write_more(p: u32, b: Block, own: &mut [u32], places: &mut [u32], words: &mut
     let end = start + w;
     let second = start + b.cells;
     let last = second + w;
-    let reciprocal = hash::reciprocal(p, w as u32);
-    let q = move_codes(p, reciprocal, own, places, &mut words[start..end]);
+    let h = Hasher::new(p, 1, w as u32);
+    let q = move_codes(h, own, places, &mut words[start..end]);
     move_values(places, own, &mut words[second..last]);
     q
 }

@@ -1,5 +1,4 @@
--- `placing::place_codes` meets its contract. The loop's invariant: the codes from i on are `Placed` in their cells, and their places noted. The
--- measure is i.
+-- `placing::place_codes` meets its contract. The loop's invariant: the codes from i on are `Placed` in their cells, and their places noted.
 use mathlib.Core.Path.{◌≡◌}
 use lib.ListN.{length, get_or}
 use Rattle.hash.specs.Hash.{hash_of}
@@ -12,6 +11,3 @@ invariant-loop-i l =
     Placed f l.h.places l.block l.block l.i l.cells
     × (NotedFrom (λ j. f (get_or l.block j 0)) l.i l.places
     × ((length l.places ≡ length l.initial.places) × (length l.cells ≡ length l.initial.cells)))
-
-abbrev pub decreases-loop-i : goal.decreases-loop-i
-decreases-loop-i l = l.i

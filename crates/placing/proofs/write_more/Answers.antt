@@ -8,7 +8,6 @@ use borrow.Rule.Slice.PartMut.{put_mid, same_len_mid}
 use lib.ListN.{length, take, drop, length-drop}
 use lib.Seq.{length-take-le}
 use Rattle.hash.proofs.Counting.{hash_lt}
-use Rattle.hash.proofs.Reciprocals.{ready}
 use Rattle.search.specs.code.Cells.{square}
 use Rattle.prelude.specs.Limits.{few}
 use Rattle.placing.specs.code.Block.{codes_at, schedules_at, CodesPlaced, First, Gathered}
@@ -59,11 +58,8 @@ move_codes-q-requires c =
     let g = c.requires.gathered in
     let own = c.requires.own_len.0 in
     record {
-      first = rw own ((lent_first g).0, rw (lent_first g).1 g.searchable);
-      cells_len = (
-        lent g ∙ ap (λ (n : ℕ). n * n) (sym own),
-        (omega (arith, own, g.some), rw (lent g) (ready (sized g).0 c.reciprocal-reciprocal.ensures)),
-      );
+      first = rw own ((lent_first g).0, rw (c.new-h.ensures.prime_is, (lent_first g).1) g.searchable);
+      cells_len = (c.new-h.ensures.places_is ∙ sym (lent g), (lent g ∙ ap (λ (n : ℕ). n * n) (sym own), omega (arith, own, g.some)));
       places_len = c.requires.own_len.1 ∙ sym own;
     }
 
@@ -77,7 +73,7 @@ placed g own done = rw (own, (lent_first g).1) at done
 pub move_values-requires : goal.move_values-requires
 move_values-requires c =
     let g = c.requires.gathered in
-    let found = placed g c.requires.own_len.0 c.move_codes-q.ensures in
+    let found = placed g c.requires.own_len.0 (rw c.new-h.ensures.prime_is at c.move_codes-q.ensures) in
     let own = c.move_codes-q.auto.own ∙ c.requires.own_len.0 in
     record {
       first = rw own (again g _ c.move_codes-q.auto.cells).0;
@@ -92,7 +88,7 @@ move_values-requires c =
 pub returns : goal.returns
 returns c =
     let g = c.requires.gathered in
-    let found = placed g c.requires.own_len.0 c.move_codes-q.ensures in
+    let found = placed g c.requires.own_len.0 (rw c.new-h.ensures.prime_is at c.move_codes-q.ensures) in
     block_placed g found.multiplier found.cells_are
     (c.move_values.ensures
     ∙ rw (c.move_codes-q.auto.own ∙ c.requires.own_len.0, (again g _ c.move_codes-q.auto.cells).1, again_length g _ c.move_codes-q.auto.cells)
