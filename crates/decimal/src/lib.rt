@@ -22,12 +22,8 @@ pub fn put_all(text: &mut [u8], at: usize, string: &[u8]) -> usize
     requires { at + length string.now ≤ length text.old }
     ensures { Added string.now at text.old result text.new }
 {
-    let mut end = at;
-    let mut i: usize = 0;
-    while i < string.len() {
-        end = put(text, end, string[i]);
-        i = i + 1;
-    }
+    let end = at + string.len();
+    text[at..end].copy_from_slice(string);
     end
 }
 
@@ -41,7 +37,7 @@ pub fn put_decimal(text: &mut [u8], at: usize, x: u32) -> usize
     end
 }
 
-// A number in decimal, from its last digits to its first, two at a time.
+// A number in decimal, from its last digits to its first, two at a time. They go to their place at once: the library's would be copied there.
 pub fn put_decimal_before(text: &mut [u8], end: usize, x: u32) -> usize
     requires { (length (decimal x) ≤ end) × (end ≤ length text.old) }
     ensures { Added (decimal x) result text.old end text.new }
@@ -50,7 +46,7 @@ pub fn put_decimal_before(text: &mut [u8], end: usize, x: u32) -> usize
     let mut rest = x;
     while 100 <= rest {
         begin = put_two_before(text, begin, rest % 100);
-        rest = rest / 100;
+        rest /= 100;
     }
     if rest < 10 {
         return put_before(text, begin, digit(rest));
@@ -96,7 +92,7 @@ pub fn decimal_length(x: u32) -> u32
 fn reaches(x: u32, y: u32) -> u32
     ensures { (result ≡ cond (leb y x) 1 0) × (result ≤ 1) }
 {
-    if y <= x { 1 } else { 0 }
+    u32::from(y <= x)
 }
 
 // The digit of a number below 10.
@@ -104,5 +100,5 @@ fn digit(x: u32) -> u8
     requires { x < 10 }
     ensures { result ≡ 48 + x }
 {
-    48 + x as u8
+    b'0' + x as u8
 }

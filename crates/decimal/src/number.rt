@@ -1,18 +1,18 @@
 // Numbers that a text has, judged and read.
 ghost use Rattle.std.specs.Prelude.{◌-◌, ◌<◌, ◌≤◌, ◌≡◌, length, drop};
 ghost use Rattle.decimal.specs.code.Digits.{digits_end, Scannable, NumberScanned};
-ghost use Rattle.decimal.specs.Number.{is_digit, digits_in, is_number};
+ghost use Rattle.decimal.specs.Number.{digits_in, is_number};
 
 // Where the digits from `at` on end. A byte follows them, so that no turn tests for the end of the text.
 pub fn digits_end(text: &[u8], at: usize) -> usize
     requires { digits_end text.now at < length text.now }
     ensures { result ≡ digits_end text.now at }
 {
-    let mut i = at;
-    while is_digit(text[i]) {
-        i = i + 1;
+    let mut end = at;
+    while text[end].is_ascii_digit() {
+        end += 1;
     }
-    i
+    end
 }
 
 // Whether the digits between `at` and `end`, which a byte follows, are a number. Only one of ten digits that begins with 4 or more is worked out.
@@ -21,7 +21,7 @@ pub fn is_number(text: &[u8], at: usize, end: usize) -> bool
     ensures { result ≡ is_number (digits_in (drop at text.now)) }
 {
     let digits = end - at;
-    if text[at] == 48 {
+    if text[at] == b'0' {
         return digits == 1;
     }
     if digits < 10 {
@@ -30,45 +30,36 @@ pub fn is_number(text: &[u8], at: usize, end: usize) -> bool
     if 10 < digits {
         return false;
     }
-    if text[at] < 52 {
+    if text[at] < b'4' {
         return true;
     }
-    scan_number(text, at).value <= 4294967295
+    scan_number(text, at).value <= u64::from(u32::MAX)
 }
 
 // A number that was read, and where it ends.
-#[derive(Clone, Copy)]
+#[derive(Clone, Copy, Debug, PartialEq, Eq)]
 pub struct Scanned {
     pub end: usize,
     pub value: u64,
 }
 
-// The number from `at` on, of one to ten digits, and where it ends. A byte follows it.
+// The number from `at` on, of one to ten digits, and where it ends. A byte follows it, so that no turn tests for the end of the text.
 pub fn scan_number(text: &[u8], at: usize) -> Scanned
     requires { Scannable text.now at }
     ensures { NumberScanned text.now at result }
 {
     let mut value = digit_value(text[at]);
     let mut i = at + 1;
-    while is_digit(text[i]) {
+    while text[i].is_ascii_digit() {
         value = 10 * value + digit_value(text[i]);
-        i = i + 1;
+        i += 1;
     }
-    Scanned {
-        end: i,
-        value: value,
-    }
-}
-
-fn is_digit(b: u8) -> bool
-    ensures { result ≡ is_digit b }
-{
-    (48 <= b) & (b <= 57)
+    Scanned { end: i, value }
 }
 
 fn digit_value(b: u8) -> u64
     requires { 48 ≤ b }
     ensures { result ≡ b - 48 }
 {
-    (b - 48) as u64
+    u64::from(b - b'0')
 }

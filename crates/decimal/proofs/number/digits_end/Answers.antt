@@ -4,16 +4,16 @@ use lib.ListN.{length}
 use Rattle.decimal.proofs.Numbers.{digits_more, digits_end_lem}
 use Rattle.decimal.proofs.number.digits_end.Goals as goal
 
-pub loop-i-smaller : goal.loop-i-smaller
-loop-i-smaller c =
-    let more = digits_more c.args.text.now c.loop-i.i (omega arith) (sym c.is_digit.ensures ∙ c.loop-i-test.true) in
+pub loop-end-smaller : goal.loop-end-smaller
+loop-end-smaller c =
+    let more = digits_more c.args.text.now c.loop-end.end (omega arith) (sym c.is_ascii_digit.ensures.value ∙ c.loop-end-test.true) in
     omega (arith, ap length more)
 
-pub loop-i-preserved : goal.loop-i-preserved
-loop-i-preserved c =
-    let more = digits_more c.args.text.now c.loop-i.i (omega arith) (sym c.is_digit.ensures ∙ c.loop-i-test.true) in
+pub loop-end-preserved : goal.loop-end-preserved
+loop-end-preserved c =
+    let more = digits_more c.args.text.now c.loop-end.end (omega arith) (sym c.is_ascii_digit.ensures.value ∙ c.loop-end-test.true) in
     omega (arith, ap length more)
 
 pub returns : goal.returns
 returns c =
-    omega (arith, ap length (digits_end_lem c.args.text.now c.loop-i.i (omega arith) (sym c.is_digit.ensures ∙ c.loop-i-test.false)))
+    omega (arith, ap length (digits_end_lem c.args.text.now c.loop-end.end (omega arith) (sym c.is_ascii_digit.ensures.value ∙ c.loop-end-test.false)))

@@ -6,8 +6,8 @@ use Rattle.decimal.specs.Number.{digits_in}
 use Rattle.decimal.specs.code.Digits.{digits_end}
 use Rattle.decimal.proofs.number.digits_end.Given as goal
 
-abbrev pub invariant-loop-i : goal.invariant-loop-i
-invariant-loop-i l = digits_end l.text l.i ≡ digits_end l.text l.at
+abbrev pub invariant-loop-end : goal.invariant-loop-end
+invariant-loop-end l = digits_end l.text l.end ≡ digits_end l.text l.at
 
-abbrev pub decreases-loop-i : goal.decreases-loop-i
-decreases-loop-i l = length (digits_in (drop l.i l.text))
+abbrev pub decreases-loop-end : goal.decreases-loop-end
+decreases-loop-end l = length (digits_in (drop l.end l.text))

@@ -79,4 +79,4 @@ returns-then-text-at-lt52 c =
 
 pub returns : goal.returns
 returns c =
-    rw c.scan_number.ensures.value (sym (by_value _ _ _ c.requires c.if-text-at-eq48.false (omega arith)))
+    rw (c.scan_number.ensures.value, c.from.ensures) (sym (by_value _ _ _ c.requires c.if-text-at-eq48.false (omega arith)))

@@ -48,25 +48,25 @@ loop-value-init c = rw c.digit_value-value.ensures (start c.requires)
 
 pub overflow_mul-value : goal.overflow_mul-value
 overflow_mul-value c =
-    let d = sym c.is_digit.ensures ∙ c.loop-value-test.true in
+    let d = sym c.is_ascii_digit.ensures.value ∙ c.loop-value-test.true in
     omega (arith, small c.requires (turn c.requires c.loop-value.invariant d))
 
 pub overflow_add-value : goal.overflow_add-value
 overflow_add-value c =
-    let d = sym c.is_digit.ensures ∙ c.loop-value-test.true in
+    let d = sym c.is_ascii_digit.ensures.value ∙ c.loop-value-test.true in
     omega (arith, c.digit_value.ensures, small c.requires (turn c.requires c.loop-value.invariant d))
 
 pub loop-value-smaller : goal.loop-value-smaller
 loop-value-smaller c =
-    let d = sym c.is_digit.ensures ∙ c.loop-value-test.true in
+    let d = sym c.is_ascii_digit.ensures.value ∙ c.loop-value-test.true in
     omega (arith, ap length (more c.requires c.loop-value.invariant d))
 
 pub loop-value-preserved : goal.loop-value-preserved
 loop-value-preserved c =
-    let d = sym c.is_digit.ensures ∙ c.loop-value-test.true in
+    let d = sym c.is_ascii_digit.ensures.value ∙ c.loop-value-test.true in
     rw c.digit_value.ensures (turn c.requires c.loop-value.invariant d)
 
 pub returns : goal.returns
 returns c =
-    let e = stop c.requires c.loop-value.invariant (sym c.is_digit.ensures ∙ c.loop-value-test.false) in
+    let e = stop c.requires c.loop-value.invariant (sym c.is_ascii_digit.ensures.value ∙ c.loop-value-test.false) in
     record { end = e.0; value = e.1 }
