@@ -1,11 +1,12 @@
 -- How long each line is, and the lines of pairs one by one.
 use Prim.Native.Nat.{ℕ, zero, suc, ◌+◌, ◌*◌, ◌<◌, ◌≤◌}
 use mathlib.Core.List.{List, [], ◌∷◌, ◌++◌}
+use mathlib.Core.Logic.{◌⊎◌, inl, inr}
 use mathlib.Core.Path.{◌≡◌, refl, ap}
 use native.Mathlib.Nat.{zero-add}
 use native.Mathlib.Numerals.{add-one}
 use native.Mathlib.Omega.{arith}
-use lib.ListN.{length, drop, get_or, length-append, drop_of_length-le}
+use lib.ListN.{length, drop, get_or, length-append}
 use lib.Seq.{drop-cons}
 use Rattle.prelude.specs.Pairs.{Pair, codes_of, schedules_of, paired}
 use Rattle.decimal.specs.Decimal.{decimal}
@@ -62,33 +63,41 @@ paired_length [] schedules = omega arith
 paired_length (a ∷ codes) [] = omega arith
 paired_length (a ∷ codes) (s ∷ schedules) = omega (arith, paired_length codes schedules)
 
--- of the bytes of all lines `sum` are counted, and those of the lines from i on are left
-pub record Counted (codes schedules : List ℕ) (sum i : ℕ) : Type 0 where
-  pub left :
-      (separator : ℕ) → sum + length (pair_lines separator (paired (drop i codes) (drop i schedules)))
-      ≡ length (pair_lines separator (paired codes schedules))
+-- pairs from two arrays, while there is one in both
+pub paired_more :
+    {codes schedules : List ℕ} {code schedule : ℕ} {others rest : List ℕ} → codes ≡ code ∷ others → schedules ≡ schedule ∷ rest
+    → paired codes schedules ≡ record { code = code; schedule = schedule } ∷ paired others rest
+unfolding paired
+paired_more e f = rw (e, f)
 
-pub counted_start : (codes schedules : List ℕ) → Counted codes schedules 0 0
-counted_start codes schedules = record { left = λ separator. zero-add _ }
+pub paired_none : (codes schedules : List ℕ) → (length codes ≡ 0) ⊎ (length schedules ≡ 0) → paired codes schedules ≡ []
+unfolding paired
+paired_none [] schedules h = refl
+paired_none (a ∷ codes) [] h = refl
+paired_none (a ∷ codes) (s ∷ schedules) (inl h) = absurd (omega arith)
+paired_none (a ∷ codes) (s ∷ schedules) (inr h) = absurd (omega arith)
 
-module _ {codes schedules : List ℕ} {sum i : ℕ} (f : Counted codes schedules sum i) where
-  pub counted_more :
-      {m n : ℕ} → i < length codes → length schedules ≡ length codes → m ≡ length (decimal (get_or codes i 0))
-      → n ≡ length (decimal (get_or schedules i 0)) → Counted codes schedules (sum + 2 + m + n) (i + 1)
-  counted_more h e p q =
-      record {
-        left = λ separator.
-            let next = rw (lines_at separator codes schedules i h e, length-append, pair_length) at (f.left separator) in
-            omega (arith, next, p, q);
-      }
+-- of the bytes of the lines of all pairs `sum` are counted, and those of some pairs are left
+pub record Counted (pairs : List Pair) (sum : ℕ) (rest : List Pair) : Type 0 where
+  pub left : (separator : ℕ) → sum + length (pair_lines separator rest) ≡ length (pair_lines separator pairs)
 
-  pub counted_all : length codes ≤ i → (separator : ℕ) → sum ≡ length (pair_lines separator (paired codes schedules))
-  unfolding pair_lines paired
-  counted_all h separator = let done = rw (drop_of_length-le codes h) at (f.left separator) in omega arith
+pub counted_start : (pairs : List Pair) → Counted pairs 0 pairs
+counted_start pairs = record { left = λ separator. zero-add _ }
 
-  -- at most 22 bytes a line
-  pub counted_few : length codes ≤ 65536 → sum ≤ 1441792
-  counted_few h = omega (arith, f.left 0, lines_few 0 (paired codes schedules), paired_length codes schedules)
+pub counted_more :
+    {pairs : List Pair} {sum : ℕ} {r : Pair} {rest : List Pair} → Counted pairs sum (r ∷ rest) → {m n : ℕ} → m ≡ length (decimal r.code)
+    → n ≡ length (decimal r.schedule) → Counted pairs (sum + (2 + m + n)) rest
+unfolding pair_lines
+counted_more f p q = record { left = λ separator. let next = rw (length-append, pair_length) at (f.left separator) in omega (arith, next, p, q) }
+
+pub counted_all : {pairs : List Pair} {sum : ℕ} → Counted pairs sum [] → (separator : ℕ) → sum ≡ length (pair_lines separator pairs)
+unfolding pair_lines
+counted_all f separator = omega (arith, f.left separator)
+
+-- at most 22 bytes a line
+pub counted_few :
+    (codes schedules : List ℕ) {sum : ℕ} {rest : List Pair} → Counted (paired codes schedules) sum rest → length codes ≤ 65536 → sum ≤ 1441792
+counted_few codes schedules f h = omega (arith, f.left 0, lines_few 0 (paired codes schedules), paired_length codes schedules)
 
 -- pairs taken apart into two arrays and put together again
 pub paired_same : (pairs : List Pair) → paired (codes_of pairs) (schedules_of pairs) ≡ pairs

@@ -53,10 +53,8 @@ pub fn put_pairs_before(
     ensures { Added (pair_lines separator (paired codes.now schedules.now)) result text.old end text.new }
 {
     let mut begin = end;
-    let mut left = codes.len();
-    while 0 < left {
-        left = left - 1;
-        begin = put_pair_before(text, begin, separator, codes[left], schedules[left]);
+    for i in (0..codes.len()).rev() {
+        begin = put_pair_before(text, begin, separator, codes[i], schedules[i]);
     }
     begin
 }
@@ -68,11 +66,9 @@ pub fn pairs_length(codes: &[u32], schedules: &[u32]) -> usize
     requires schedules_len { length schedules.now ≡ length codes.now }
     ensures { (separator : ℕ) → result ≡ length (pair_lines separator (paired codes.now schedules.now)) }
 {
-    let mut sum: u32 = 0;
-    let mut done: usize = 0;
-    while done < codes.len() {
-        sum = sum + 2 + decimal_length(codes[done]) + decimal_length(schedules[done]);
-        done = done + 1;
+    let mut sum = 0;
+    for (&code, &schedule) in codes.iter().zip(schedules) {
+        sum += 2 + decimal_length(code) + decimal_length(schedule);
     }
     sum as usize
 }

@@ -8,18 +8,18 @@ use Rattle.decimal.proofs.Added.{none, before, kept}
 use Rattle.lines.proofs.LineLaws.{lines_at, line_fits}
 use Rattle.lines.proofs.put_pairs_before.Goals as goal
 
-pub loop-left-init : goal.loop-left-init
+pub loop-i-init : goal.loop-i-init
 unfolding pair_lines paired
-loop-left-init c = (omega arith, rw (drop-length c.args.codes.now) (none _ _ (omega arith)))
+loop-i-init c = rw (drop-length c.args.codes.now) (none _ _ (omega arith))
 
 pub put_pair_before-begin-requires : goal.put_pair_before-begin-requires
 put_pair_before-begin-requires c =
-    let next : c.loop-left.left - 1 + 1 ≡ c.loop-left.left = omega arith in
-    let fits = line_fits c.args.separator c.args.codes.now c.args.schedules.now (c.loop-left.left - 1) (omega arith) c.requires.schedules_len in
-    omega (arith, rw next at fits, c.loop-left.invariant.1.place, kept c.loop-left.invariant.1)
+    let next : c.loop-i.i - 1 + 1 ≡ c.loop-i.i = omega arith in
+    let fits = line_fits c.args.separator c.args.codes.now c.args.schedules.now (c.loop-i.i - 1) (omega arith) c.requires.schedules_len in
+    omega (arith, rw next at fits, c.loop-i.invariant.place, kept c.loop-i.invariant)
 
-pub loop-left-preserved : goal.loop-left-preserved
-loop-left-preserved c =
-    let next : c.loop-left.left - 1 + 1 ≡ c.loop-left.left = omega arith in
-    let line = lines_at c.args.separator c.args.codes.now c.args.schedules.now (c.loop-left.left - 1) (omega arith) c.requires.schedules_len in
-    (omega arith, rw (line, next) (before c.loop-left.invariant.1 c.put_pair_before-begin.ensures))
+pub loop-i-preserved : goal.loop-i-preserved
+loop-i-preserved c =
+    let next : c.loop-i.i - 1 + 1 ≡ c.loop-i.i = omega arith in
+    let line = lines_at c.args.separator c.args.codes.now c.args.schedules.now (c.loop-i.i - 1) (omega arith) c.requires.schedules_len in
+    rw (line, next) (before c.loop-i.invariant c.put_pair_before-begin.ensures)
