@@ -6,6 +6,7 @@ use mathlib.Core.Path.{◌≡◌, refl, ap, ◌∙◌}
 use native.Mathlib.Numerals.{add-one}
 use native.Mathlib.Omega.{arith}
 use lib.Dec.{eqb}
+use mir.Val.{bool_byte}
 use lib.ListN.{length, get_or, take, drop, drop_of_length-le}
 use lib.Seq.{drop-cons, take-add}
 use Rattle.audit.specs.Check.{codes_in}
@@ -18,6 +19,15 @@ one_at_most false = omega arith
 pub occupied_is : (b : Bool) → ◌≡◌ {A = ℕ} (cond b 0 1) (cond (not b) 1 0)
 occupied_is true = refl
 occupied_is false = refl
+
+-- a test as a number
+pub byte_is : (b : Bool) → bool_byte b ≡ cond b 1 0
+byte_is true = refl
+byte_is false = refl
+
+pub byte_not : (b : Bool) → bool_byte (not b) ≡ cond b 0 1
+byte_not true = refl
+byte_not false = refl
 
 pub codes_le : (cells : List ℕ) → codes_in cells ≤ length cells
 unfolding codes_in

@@ -12,7 +12,7 @@ use lib.ListN.{length, get_or, take, drop, length-drop}
 use lib.Seq.{get_or-take, get_or-drop, length-take-le}
 use Rattle.hash.specs.Hash.{hash_of}
 use Rattle.hash.proofs.Words.{product_lt}
-use Rattle.prelude.specs.Answers.{first_of}
+use Rattle.prelude.specs.Answers.{first_of, first_where}
 use Rattle.prelude.proofs.First.{first_ext}
 use Rattle.table.specs.Words.{code_count, total, block_start, block_end, block_multiplier, cell_code, block_of, cell_in, own_cell}
 use Rattle.audit.specs.Check.{misplaced, bad_square, codes_in, block_codes}
@@ -85,10 +85,14 @@ module _ (words : List ℕ) (s : Starts words) (whole : total words ≤ length w
         (block_of h.prime words (cell_code words (block_start words j + t)))
         (block_lt h.prime words (cell_code words (block_start words j + t)) (omega arith))))
 
-    pub part_first : first_of (length (block_codes words j)) (misplaced_in h b (block_codes words j)) ≡ first_of (cells_of words j) (λ t. misplaced h.prime words (block_start words j + t))
+    part_first : first_of (length (block_codes words j)) (misplaced_in h b (block_codes words j)) ≡ first_of (cells_of words j) (λ t. misplaced h.prime words (block_start words j + t))
     part_first =
         ap (λ (w : ℕ). first_of w (misplaced_in h b (block_codes words j))) part_length
         ∙ first_ext (cells_of words j) _ _ part_misplaced
+
+    -- the first misplaced code of the part is that of the block
+    pub part_where : first_where (length (block_codes words j)) (misplaced_in h b (block_codes words j)) ≡ first_where (cells_of words j) (λ t. misplaced h.prime words (block_start words j + t))
+    part_where = rw (part_first, part_length) refl
 
     -- what the test of its part tells of the block
     part_unsound :

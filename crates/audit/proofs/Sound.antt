@@ -9,11 +9,13 @@ use native.Mathlib.Omega.{arith}
 use borrow.Author.Tests.{eq-eqb, ne_eqb, eqb-true, lt-ltb, le-ltb, ltb-true}
 use lib.Dec.{eqb, ltb}
 use lib.ListN.{length, get_or, take, drop}
-use Rattle.prelude.specs.Answers.{given, first_of, some}
+use Rattle.prelude.specs.Answers.{given, first_of, first_where, some}
 use Rattle.table.specs.Words.{code_count, cell_count, block_start, block_end}
 use Rattle.prelude.specs.code.Choice.{chosen}
 use Rattle.prelude.proofs.Choosing.{chosen_below, some_chosen}
-use Rattle.prelude.proofs.First.{First, Below, first_is, first_found}
+use Rattle.std.specs.Prelude.{Some, None}
+use Rattle.prelude.proofs.First.{Below}
+use Rattle.prelude.proofs.Where.{where_found, where_first, where_passed}
 use Rattle.prelude.proofs.Some.{some_of_none, some_ext, some_or, some_holds, none_below}
 use Rattle.audit.specs.Check.{misplaced, bad_square, codes_in, all_codes}
 use Rattle.audit.specs.code.Starts.{Starts}
@@ -106,46 +108,29 @@ module _ (p : ℕ) (words : List ℕ) where
         subst (Below (misplaced p words)) (edge_last words s) (placed_before (code_count words) (omega arith) each)
 
     -- the first misplaced code of block j, where those before it have none
-    module _ (j t : ℕ) (lj : j < code_count words) (before : Below (misplaced p words) (edge words j)) (is : t ≡ first_of (cells_of words j) (λ t. misplaced p words (block_start words j + t))) where
-      part_first_is : First (cells_of words j) (λ t. misplaced p words (block_start words j + t)) t
-      part_first_is = rw is (first_is (cells_of words j) (λ t. misplaced p words (block_start words j + t)))
-
-      passed : Below (misplaced p words) (block_start words j + t)
-      passed i m =
+    module _ (j : ℕ) (lj : j < code_count words) (before : Below (misplaced p words) (edge words j)) where
+      passed : (t : ℕ) → Below (λ t. misplaced p words (block_start words j + t)) t → Below (misplaced p words) (block_start words j + t)
+      passed t none i m =
           elim (dec_lt i (edge words j)) [
             | yes b ↦ before i b
             | no ge ↦
                 subst (λ (x : ℕ). misplaced p words x ≡ false) (omega (arith, edge_start words s j lj))
-                (part_first_is.below (i - block_start words j) (omega (arith, edge_start words s j lj)))
+                (none (i - block_start words j) (omega (arith, edge_start words s j lj)))
           ]
 
-      pub cell_found : t < cells_of words j → first_of (cell_count words) (misplaced p words) ≡ block_start words j + t
-      cell_found l =
-          first_found (cell_count words) (misplaced p words) (block_start words j + t) (omega (arith, end_within words s j lj)) passed (part_first_is.holds l)
+      pub cell_found :
+          {t : ℕ} → first_where (cells_of words j) (λ t. misplaced p words (block_start words j + t)) ≡ Some t
+          → first_where (cell_count words) (misplaced p words) ≡ Some (block_start words j + t)
+      cell_found {t} e =
+          let (l, first) = where_first _ _ e in
+          where_found (cell_count words) (misplaced p words) (block_start words j + t) (omega (arith, end_within words s j lj)) (passed t first.below) (first.holds l)
 
-      pub cells_passed : cells_of words j ≤ t → Below (misplaced p words) (edge words (j + 1))
-      cells_passed ge i m = passed i (omega (arith, start_le_end words s j lj))
+      pub cells_passed :
+          first_where (cells_of words j) (λ t. misplaced p words (block_start words j + t)) ≡ None → Below (misplaced p words) (edge words (j + 1))
+      cells_passed e i m = passed (cells_of words j) (where_passed _ _ e) i (omega (arith, start_le_end words s j lj))
 
--- 19, then 20, of a table that is not sound
+-- 19, then 20
 module _ (p : ℕ) (words : List ℕ) (s : Starts words) where
-  -- where no code is misplaced, a block has the wrong size
-  pub unsquare_is :
-      some (code_count words) (unsound p words) ≡ true → Below (misplaced p words) (cell_count words)
-      → first_of (code_count words) (bad_square words) < code_count words
-  unfolding unsound
-  unsquare_is e placed =
-      let n : ℕ = code_count words in
-      let j : ℕ = first_of n (unsound p words) in
-      let lj : j < n = ltb-true j n e in
-      let clean : some (cells_of words j) (λ t. misplaced p words (block_start words j + t)) ≡ false
-      = some_holds (cells_of words j) (λ t. misplaced p words (block_start words j + t))
-      (λ t l. placed (block_start words j + t) (omega (arith, end_within words s j lj))) in
-      let bad : bad_square words j ≡ true = rw clean at ((first_is n (unsound p words)).holds lj) in
-      elim (dec_lt (first_of n (bad_square words)) n) [
-        | yes l ↦ l
-        | no ge ↦ absurd (true≢false (sym bad ∙ (first_is n (bad_square words)).below j (omega (arith, (first_is n (bad_square words)).within))))
-      ]
-
   -- of a table that is sound neither holds
   pub sound_answer : some (code_count words) (unsound p words) ≡ false → from_count words ≡ from_places p words
   unfolding from_places unsound

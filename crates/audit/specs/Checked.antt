@@ -1,19 +1,23 @@
 -- The paper's number and values of each case of a check's answer (document 01, "Check").
-use Rattle.std.specs.Prelude.{[], ◌∷◌}
+use Rattle.std.specs.Prelude.{[], ◌∷◌, Result, Ok, Err}
 use Rattle.prelude.specs.Answers.{Answer, given, refused}
-use Rattle.audit.specs.declared.check.Checked.{Checked}
-use Rattle.audit.specs.declared.check.Checked.TheVariants.{Accepted, TooFewWords, TooManyCodes, TooManyCells, BadMultiplier, TooShort, BadStart, BadBlockMultiplier, BadCell, Misplaced, NotSquare, WrongCount}
+use Rattle.audit.specs.declared.check.Accepted.{Accepted}
+use Rattle.audit.specs.declared.check.CheckError.{CheckError}
+use Rattle.audit.specs.declared.check.CheckError.TheVariants.{TooFewWords, TooManyCodes, TooManyCells, BadMultiplier, TooShort, BadStart, BadBlockMultiplier, BadCell, Misplaced, NotSquare, WrongCount}
 
-abbrev pub checked_of : Checked → Answer
-checked_of (Accepted n total) = given (n ∷ total ∷ [])
-checked_of TooFewWords = refused 11 0
-checked_of TooManyCodes = refused 12 0
-checked_of TooManyCells = refused 13 0
-checked_of BadMultiplier = refused 14 0
-checked_of (TooShort total) = refused 15 total
-checked_of (BadStart j) = refused 16 j
-checked_of (BadBlockMultiplier j) = refused 17 j
-checked_of (BadCell i) = refused 18 i
-checked_of (Misplaced i) = refused 19 i
-checked_of (NotSquare j) = refused 20 j
-checked_of (WrongCount codes) = refused 21 codes
+abbrev pub check_error_of : CheckError → Answer
+check_error_of TooFewWords = refused 11 0
+check_error_of TooManyCodes = refused 12 0
+check_error_of TooManyCells = refused 13 0
+check_error_of BadMultiplier = refused 14 0
+check_error_of (TooShort total) = refused 15 total
+check_error_of (BadStart j) = refused 16 j
+check_error_of (BadBlockMultiplier j) = refused 17 j
+check_error_of (BadCell i) = refused 18 i
+check_error_of (Misplaced i) = refused 19 i
+check_error_of (NotSquare j) = refused 20 j
+check_error_of (WrongCount codes) = refused 21 codes
+
+abbrev pub checked_of : Result Accepted CheckError → Answer
+checked_of (Ok a) = given (a.codes ∷ a.total ∷ [])
+checked_of (Err e) = check_error_of e

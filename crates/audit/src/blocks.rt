@@ -1,7 +1,7 @@
 // One block of a table by itself: its codes are handed on as the part of the words that belongs to it, and are counted and placed there.
 // Branch-free but for the lengths: whether a cell holds a code, and whether it is its own, is not jumped on.
 ghost use Rattle.std.specs.Prelude.{◌<◌, ◌≤◌, ◌≡◌, length};
-ghost use Rattle.prelude.specs.Answers.{first_of, some};
+ghost use Rattle.prelude.specs.Answers.{first_where, some};
 ghost use Rattle.prelude.specs.code.Choice.{chosen};
 ghost use Rattle.prelude.specs.code.Within.{Within};
 ghost use Rattle.audit.specs.Check.{codes_in};
@@ -95,20 +95,17 @@ fn some_misplaced(h: Hasher, b: BlockHash, part: &[u32], list: &[u16]) -> bool
     found
 }
 
-// The first place of a block that holds a code and is not its own, the number of cells where there is none.
-pub(crate) fn first_misplaced(h: Hasher, b: BlockHash, part: &[u32]) -> usize
+// The first place of a block that holds a code and is not its own.
+pub(crate) fn first_misplaced(h: Hasher, b: BlockHash, part: &[u32]) -> Option<usize>
     requires { Handed h b part.now }
-    ensures { result ≡ first_of (length part.now) (misplaced_in h b part.now) }
+    ensures { result ≡ first_where (length part.now) (misplaced_in h b part.now) }
 {
-    let mut t: usize = 0;
-    while t < part.len() {
-        let a = part[t];
+    for (t, &a) in part.iter().enumerate() {
         if (a != 0) & not_own(h, b, t, a) {
-            return t;
+            return Some(t);
         }
-        t += 1;
     }
-    t
+    None
 }
 
 // Counts and places the codes of a block that has one cell: the place of every code is 0.
@@ -132,7 +129,7 @@ pub(crate) fn test_block(h: Hasher, b: BlockHash, part: &[u32], list: &mut [u16]
 {
     if list.len() < part.len() {
         return BlockTest {
-            misplaced: first_misplaced(h, b, part) < part.len(),
+            misplaced: first_misplaced(h, b, part).is_some(),
             codes: count_codes(part),
         };
     }

@@ -3,6 +3,5 @@
 
 mod blocks;
 pub mod check;
-pub mod numbered;
 mod places;
 mod ranges;

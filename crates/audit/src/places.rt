@@ -1,7 +1,7 @@
 // Conditions 19 and 20 of document 01 on tables that pass 11 to 18. Whether one of them holds of any block is told of all blocks first; which of them,
 // and of what cell or block, is looked for only where one does. A block's codes are handed on as the part of the words between its start and its end.
 ghost use Rattle.std.specs.Prelude.{◌+◌, ◌-◌, ◌<◌, ◌≤◌, ◌≡◌, length};
-ghost use Rattle.prelude.specs.Answers.{first_of, some};
+ghost use Rattle.prelude.specs.Answers.{first_where, some};
 ghost use Rattle.table.specs.Words.{code_count, cell_count};
 ghost use Rattle.table.specs.code.Sized.{HashOf};
 ghost use Rattle.audit.specs.Check.{misplaced, bad_square, block_codes};
@@ -161,38 +161,30 @@ pub(crate) fn any_unsound(h: Hasher, words: &[u32]) -> bool
     found
 }
 
-// 19: the first misplaced code's cell, c where there is none.
-pub(crate) fn first_cell(h: Hasher, words: &[u32]) -> usize
+// 19: the first misplaced code's cell.
+pub(crate) fn first_cell(h: Hasher, words: &[u32]) -> Option<usize>
     requires { Ranged h.prime 65536 words.now × HashOf words.now h }
-    ensures { result ≡ first_of (cell_count words.now) (misplaced h.prime words.now) }
+    ensures { result ≡ first_where (cell_count words.now) (misplaced h.prime words.now) }
 {
-    let n = wide(words[0]);
-    let mut j: usize = 0;
-    while j < n {
-        let part = block_codes(words, j);
-        let t = first_misplaced(h, block_hash(words, j), part);
-        if t < part.len() {
-            return wide(block_start(words, j)) + t;
+    for j in 0..wide(words[0]) {
+        if let Some(t) = first_misplaced(h, block_hash(words, j), block_codes(words, j)) {
+            return Some(wide(block_start(words, j)) + t);
         }
-        j += 1;
     }
-    wide(words[1])
+    None
 }
 
-// 20: the first block whose cells do not number the square of its codes, n where there is none.
-pub(crate) fn first_unsquare(words: &[u32]) -> usize
+// 20: the first block whose cells do not number the square of its codes.
+pub(crate) fn first_unsquare(words: &[u32]) -> Option<usize>
     requires { Lined words.now }
-    ensures { result ≡ first_of (code_count words.now) (bad_square words.now) }
+    ensures { result ≡ first_where (code_count words.now) (bad_square words.now) }
 {
-    let n = wide(words[0]);
-    let mut j: usize = 0;
-    while j < n {
+    for j in 0..wide(words[0]) {
         let part = block_codes(words, j);
         let codes = count_codes(part);
         if part.len() != codes * codes {
-            return j;
+            return Some(j);
         }
-        j += 1;
     }
-    j
+    None
 }

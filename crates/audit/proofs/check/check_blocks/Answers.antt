@@ -1,68 +1,53 @@
 -- `audit::check::check_blocks` meets its contract: the tests 16 to 18 are the definition's, in the same order. Starts that pass 16 rise.
-use Prim.Native.Nat.{ℕ, ◌≤◌}
-use mathlib.Core.Bool.{Bool}
+use mathlib.Core.Path.{sym, ◌∙◌}
 use native.Mathlib.Omega.{arith}
-use borrow.Author.Tests.{lt-ltb, le-ltb}
-use Rattle.table.specs.Words.{code_count, cell_count}
-use Rattle.prelude.specs.Answers.{first_of}
-use Rattle.prelude.proofs.First.{Below, none_refused}
-use Rattle.audit.specs.Check.{bad_start, bad_block_multiplier, bad_cell}
+use Rattle.prelude.proofs.Where.{where_first, where_passed, where_refused, where_next}
 use Rattle.audit.specs.code.From.{from_starts}
 use Rattle.audit.proofs.Passing.{starts_pass, multiplier_passes, cell_passes}
 use Rattle.audit.proofs.check.check_blocks.Goals as goal
 
-passed : (n : ℕ) (test : ℕ → Bool) → n ≤ first_of n test → Below test n
-passed n test l = (none_refused n test).0 (le-ltb (first_of n test) n l)
+pub overflow_cast-result : goal.overflow_cast-result
+overflow_cast-result c = omega (arith, c.requires.1.few_codes, (where_first _ _ (sym c.first_bad_start.ensures ∙ c.in-Some.is)).0)
 
-pub returns-then-start-n : goal.returns-then-start-n
+pub returns-in-Some : goal.returns-in-Some
 unfolding from_starts
-returns-then-start-n c =
-    let n = code_count c.args.words.now in
-    rw (← c.first_bad-start.ensures, lt-ltb c.first_bad-start.result n (omega arith))
+returns-in-Some c = sym (where_refused _ _ 16 _ (sym c.first_bad_start.ensures ∙ c.in-Some.is))
 
-pub returns-then-multiplier-n : goal.returns-then-multiplier-n
-unfolding from_starts
-returns-then-multiplier-n c =
-    let n = code_count c.args.words.now in
-    rw (
-      ← c.first_bad-start.ensures,
-      le-ltb c.first_bad-start.result n (omega arith),
-      ← c.first_bad-multiplier.ensures,
-      lt-ltb c.first_bad-multiplier.result n (omega arith),
-    )
+pub overflow_cast-result-in-Some-first_bad_multiplier : goal.overflow_cast-result-in-Some-first_bad_multiplier
+overflow_cast-result-in-Some-first_bad_multiplier c =
+    omega (arith, c.requires.1.few_codes, (where_first _ _ (sym c.first_bad_multiplier.ensures ∙ c.in-Some-first_bad_multiplier.is)).0)
 
-pub returns-then-cell-c : goal.returns-then-cell-c
+pub returns-in-Some-first_bad_multiplier : goal.returns-in-Some-first_bad_multiplier
 unfolding from_starts
-returns-then-cell-c c =
-    rw (
-      ← c.first_bad-start.ensures,
-      le-ltb c.first_bad-start.result (code_count c.args.words.now) (omega arith),
-      ← c.first_bad-multiplier.ensures,
-      le-ltb c.first_bad-multiplier.result (code_count c.args.words.now) (omega arith),
-      ← c.first_bad-cell.ensures,
-      lt-ltb c.first_bad-cell.result (cell_count c.args.words.now) (omega arith),
-    )
+returns-in-Some-first_bad_multiplier c =
+    sym (where_refused _ _ 17 _ (sym c.first_bad_multiplier.ensures ∙ c.in-Some-first_bad_multiplier.is))
+    ∙ sym (where_next _ _ 16 _ (sym c.first_bad_start.ensures ∙ c.in_default.is))
+
+pub overflow_cast-result-in-Some-first_bad_cell : goal.overflow_cast-result-in-Some-first_bad_cell
+overflow_cast-result-in-Some-first_bad_cell c =
+    omega (arith, (where_first _ _ (sym c.first_bad_cell.ensures ∙ c.in-Some-first_bad_cell.is)).0, c.type_inv.words 1)
+
+pub returns-in-Some-first_bad_cell : goal.returns-in-Some-first_bad_cell
+unfolding from_starts
+returns-in-Some-first_bad_cell c =
+    sym (where_refused _ _ 18 _ (sym c.first_bad_cell.ensures ∙ c.in-Some-first_bad_cell.is))
+    ∙ sym (where_next _ _ 17 _ (sym c.first_bad_multiplier.ensures ∙ c.in_default-first_bad_multiplier.is))
+    ∙ sym (where_next _ _ 16 _ (sym c.first_bad_start.ensures ∙ c.in_default.is))
 
 pub check_places-requires : goal.check_places-requires
 check_places-requires c =
-    let n = code_count c.args.words.now in
     record {
       sized = c.requires.1;
-      starts = starts_pass c.args.words.now c.requires.1.no_cells (passed n (bad_start c.args.words.now) (omega (arith, c.first_bad-start.ensures)));
+      starts = starts_pass c.args.words.now c.requires.1.no_cells (where_passed _ _ (sym c.first_bad_start.ensures ∙ c.in_default.is));
       multipliers = λ j l.
-          ((multiplier_passes c.args.p c.args.words.now j c.requires.0).0 (passed n (bad_block_multiplier c.args.p c.args.words.now) (omega (arith, c.first_bad-multiplier.ensures)) j l)).1;
-      codes = λ i l. ((cell_passes c.args.p c.args.words.now i c.requires.0).0 (passed (cell_count c.args.words.now) (bad_cell c.args.p c.args.words.now) (omega (arith, c.first_bad-cell.ensures)) i l)).0;
+          ((multiplier_passes c.args.p c.args.words.now j c.requires.0).0 (where_passed _ _ (sym c.first_bad_multiplier.ensures ∙ c.in_default-first_bad_multiplier.is) j l)).1;
+      codes = λ i l. ((cell_passes c.args.p c.args.words.now i c.requires.0).0 (where_passed _ _ (sym c.first_bad_cell.ensures ∙ c.in_default-first_bad_cell.is) i l)).0;
     }
 
 pub returns : goal.returns
 unfolding from_starts
 returns c =
-    rw (
-      ← c.first_bad-start.ensures,
-      le-ltb c.first_bad-start.result (code_count c.args.words.now) (omega arith),
-      ← c.first_bad-multiplier.ensures,
-      le-ltb c.first_bad-multiplier.result (code_count c.args.words.now) (omega arith),
-      ← c.first_bad-cell.ensures,
-      le-ltb c.first_bad-cell.result (cell_count c.args.words.now) (omega arith),
-    )
     c.check_places.ensures
+    ∙ sym (where_next _ _ 18 _ (sym c.first_bad_cell.ensures ∙ c.in_default-first_bad_cell.is))
+    ∙ sym (where_next _ _ 17 _ (sym c.first_bad_multiplier.ensures ∙ c.in_default-first_bad_multiplier.is))
+    ∙ sym (where_next _ _ 16 _ (sym c.first_bad_start.ensures ∙ c.in_default.is))

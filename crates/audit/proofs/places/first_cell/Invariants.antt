@@ -1,13 +1,8 @@
--- `audit::places::first_cell` meets its contract. The loop's invariant: no code before block j is misplaced. The measure is what is left.
-use Prim.Native.Nat.{◌-◌, ◌≤◌}
-use Rattle.table.specs.Words.{code_count}
+-- `audit::places::first_cell` meets its contract. The loop's invariant: no code before block j is misplaced.
 use Rattle.prelude.proofs.First.{Below}
 use Rattle.audit.specs.Check.{misplaced}
 use Rattle.audit.proofs.Partition.{edge}
 use Rattle.audit.proofs.places.first_cell.Given as goal
 
 abbrev pub invariant-loop-j : goal.invariant-loop-j
-invariant-loop-j l = (l.j ≤ code_count l.words) × Below (misplaced l.h.prime l.words) (edge l.words l.j)
-
-abbrev pub decreases-loop-j : goal.decreases-loop-j
-decreases-loop-j l = code_count l.words - l.j
+invariant-loop-j l = Below (misplaced l.h.prime l.words) (edge l.words l.j)
