@@ -1,5 +1,4 @@
 // Reading an accepted table back.
 #![tactic(auto)]
 
-pub mod numbered;
 pub mod pairs;
