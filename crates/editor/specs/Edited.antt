@@ -1,15 +1,18 @@
 -- The paper's number and values of each case of an edit's answer (document 01, "Put in, take out").
-use Rattle.std.specs.Prelude.{[], ◌∷◌}
-use Rattle.prelude.specs.Answers.{Answer, given, refused}
-use Rattle.audit.specs.Checked.{checked_of}
-use Rattle.editor.specs.declared.edit.Edited.{Edited}
-use Rattle.editor.specs.declared.edit.Edited.TheVariants.{Rebuilt, CodeOutOfRange, ScheduleOutOfRange, Full, TooShort, NotThere, Refused}
+use Rattle.std.specs.Prelude.{ℕ, Result}
+use Rattle.prelude.specs.Answers.{Answer, refused, answer_of}
+use Rattle.audit.specs.Checked.{check_error_of}
+use Rattle.editor.specs.declared.edit.EditError.{EditError}
+use Rattle.editor.specs.declared.edit.EditError.TheVariants.{CodeOutOfRange, ScheduleOutOfRange, Full, TooShort, NotThere, Refused}
 
-abbrev pub edited_of : Edited → Answer
-edited_of (Rebuilt total) = given (total ∷ [])
-edited_of CodeOutOfRange = refused 51 0
-edited_of ScheduleOutOfRange = refused 52 0
-edited_of Full = refused 53 0
-edited_of (TooShort total) = refused 54 total
-edited_of NotThere = refused 55 0
-edited_of (Refused checked) = checked_of checked
+abbrev pub edit_error_of : EditError → Answer
+edit_error_of CodeOutOfRange = refused 51 0
+edit_error_of ScheduleOutOfRange = refused 52 0
+edit_error_of Full = refused 53 0
+edit_error_of (TooShort total) = refused 54 total
+edit_error_of NotThere = refused 55 0
+edit_error_of (Refused e) = check_error_of e
+
+-- the new total, or the error
+abbrev pub edited_of : Result ℕ EditError → Answer
+edited_of r = answer_of edit_error_of r

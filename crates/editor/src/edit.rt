@@ -5,18 +5,19 @@ ghost use Rattle.prelude.specs.Answers.{into_room};
 ghost use Rattle.prelude.specs.Limits.{room, most_pairs};
 ghost use Rattle.audit.specs.WellFormed.{WellFormed};
 ghost use Rattle.editor.specs.Edit.{Inserted, Removed};
-ghost use Rattle.editor.specs.Edited.{edited_of};
+ghost use Rattle.editor.specs.Edited.{edit_error_of, edited_of};
+ghost use Rattle.editor.specs.declared.edit.EditError.TheVariants.{Refused};
 ghost use Rattle.editor.specs.code.Editing.{InRange, PutIn, TakenOut};
 
 use crate::changes::{Change, count_others, write_with_new, write_without};
-use audit::check::{Checked, check_for};
+use audit::check::{CheckError, check_for};
+use prelude::answers::{Numbered, Refusal};
 use prelude::limits::MOST_PAIRS;
 use prelude::numbers::{outside, wide};
 
-#[derive(Clone, Copy)]
-pub enum Edited {
-    // the new total
-    Rebuilt(u32),
+// Why a table is not changed.
+#[derive(Clone, Copy, Debug, PartialEq, Eq)]
+pub enum EditError {
     // 51
     CodeOutOfRange,
     // 52
@@ -28,21 +29,45 @@ pub enum Edited {
     // 55
     NotThere,
     // 11 to 21, of the old table
-    Refused(Checked),
+    Refused(CheckError),
+}
+
+impl From<CheckError> for EditError {
+    ghost from_gives = { λ e r. r ≡ Refused e };
+
+    fn from(e: CheckError) -> EditError {
+        EditError::Refused(e)
+    }
+}
+
+impl Refusal for EditError {
+    ghost refusal_of = { edit_error_of };
+
+    fn refusal(self) -> Numbered {
+        let (number, value) = match self {
+            EditError::CodeOutOfRange => (51, 0),
+            EditError::ScheduleOutOfRange => (52, 0),
+            EditError::Full => (53, 0),
+            EditError::TooShort(total) => (54, total),
+            EditError::NotThere => (55, 0),
+            EditError::Refused(e) => return e.refusal(),
+        };
+        Numbered { number, value }
+    }
 }
 
 // What a build of the changed list answers: 54, or the new total.
-fn rebuilt(lent: usize, total: u32) -> Edited
+fn rebuilt(lent: usize, total: u32) -> Result<u32, EditError>
     ensures { edited_of result ≡ into_room 54 total lent }
 {
     if lent < wide(total) {
-        return Edited::TooShort(total);
+        return Err(EditError::TooShort(total));
     }
-    Edited::Rebuilt(total)
+    Ok(total)
 }
 
 // From 53 on: a table with as many other codes as the limit is full.
-fn put_in(p: u32, limit: u32, words: &[u32], code: u32, schedule: u32, second: &mut [u32]) -> Edited
+fn put_in(p: u32, limit: u32, words: &[u32], code: u32, schedule: u32, second: &mut [u32]) -> Result<u32, EditError>
     requires prime { Prime p }
     requires limit_le_room { limit ≤ room }
     requires well_formed { WellFormed p limit words.now }
@@ -51,7 +76,7 @@ fn put_in(p: u32, limit: u32, words: &[u32], code: u32, schedule: u32, second: &
 {
     let others = count_others(words, code);
     if others == wide(limit) {
-        return Edited::Full;
+        return Err(EditError::Full);
     }
     let change = Change {
         code,
@@ -65,7 +90,7 @@ fn put_in(p: u32, limit: u32, words: &[u32], code: u32, schedule: u32, second: &
 }
 
 // From 55 on: a table whose codes are all others does not have the code.
-fn take_out(p: u32, limit: u32, words: &[u32], code: u32, second: &mut [u32]) -> Edited
+fn take_out(p: u32, limit: u32, words: &[u32], code: u32, second: &mut [u32]) -> Result<u32, EditError>
     requires prime { Prime p }
     requires limit_le_room { limit ≤ room }
     requires well_formed { WellFormed p limit words.now }
@@ -73,7 +98,7 @@ fn take_out(p: u32, limit: u32, words: &[u32], code: u32, second: &mut [u32]) ->
 {
     let others = count_others(words, code);
     if others == wide(words[0]) {
-        return Edited::NotThere;
+        return Err(EditError::NotThere);
     }
     let change = Change {
         code,
@@ -94,44 +119,38 @@ fn insert_for(
     code: u32,
     schedule: u32,
     second: &mut [u32],
-) -> Edited
+) -> Result<u32, EditError>
     requires prime { Prime p }
     requires limit_le_room { limit ≤ room }
     ensures { Inserted p limit words.now code schedule second.old (edited_of result) second.new }
 {
     if outside(1, p - 1, code) {
-        return Edited::CodeOutOfRange;
+        return Err(EditError::CodeOutOfRange);
     }
     if outside(1, 999, schedule) {
-        return Edited::ScheduleOutOfRange;
+        return Err(EditError::ScheduleOutOfRange);
     }
-    let checked = check_for(p, limit, words);
-    let Checked::Accepted(_, _) = checked else {
-        return Edited::Refused(checked);
-    };
+    check_for(p, limit, words)?;
     put_in(p, limit, words, code, schedule, second)
 }
 
 // Taking out for a prime p and a limit on the codes of a table.
-fn remove_for(p: u32, limit: u32, words: &[u32], code: u32, second: &mut [u32]) -> Edited
+fn remove_for(p: u32, limit: u32, words: &[u32], code: u32, second: &mut [u32]) -> Result<u32, EditError>
     requires prime { Prime p }
     requires limit_le_room { limit ≤ room }
     ensures { Removed p limit words.now code second.old (edited_of result) second.new }
 {
     if outside(1, p - 1, code) {
-        return Edited::CodeOutOfRange;
+        return Err(EditError::CodeOutOfRange);
     }
-    let checked = check_for(p, limit, words);
-    let Checked::Accepted(_, _) = checked else {
-        return Edited::Refused(checked);
-    };
+    check_for(p, limit, words)?;
     take_out(p, limit, words, code, second)
 }
 
 // Puts a code in with its schedule, in place of the one that it has. The second buffer takes what the build makes of the changed list, even
 // where the old multipliers are not the least. Gives the new total; the words after it are kept. Refused by 51, by 52, as the check refuses
 // the old table, by 53, or by 54 with the new total: then the second buffer is kept.
-pub fn insert(words: &[u32], code: u32, schedule: u32, second: &mut [u32]) -> Edited
+pub fn insert(words: &[u32], code: u32, schedule: u32, second: &mut [u32]) -> Result<u32, EditError>
     ensures { Inserted 65537 most_pairs words.now code schedule second.old (edited_of result) second.new }
 {
     insert_for(65537, MOST_PAIRS, words, code, schedule, second)
@@ -139,7 +158,7 @@ pub fn insert(words: &[u32], code: u32, schedule: u32, second: &mut [u32]) -> Ed
 
 // Takes a code out. The second buffer takes what the build makes of the pairs that are left. Gives the new total; the words after it are kept.
 // Refused by 51, as the check refuses the old table, by 55, or by 54 with the new total: then the second buffer is kept.
-pub fn remove(words: &[u32], code: u32, second: &mut [u32]) -> Edited
+pub fn remove(words: &[u32], code: u32, second: &mut [u32]) -> Result<u32, EditError>
     ensures { Removed 65537 most_pairs words.now code second.old (edited_of result) second.new }
 {
     remove_for(65537, MOST_PAIRS, words, code, second)

@@ -3,4 +3,3 @@
 
 mod changes;
 pub mod edit;
-pub mod numbered;
