@@ -8,7 +8,7 @@ ghost use Rattle.prelude.specs.Numbers.{Shown, FoundShown};
 ghost use Rattle.glass_c.specs.Exports.{BuildShown, PairsShown, InsertShown, RemoveShown, ReadListShown, WriteListShown, GenerateShown};
 ghost use Rattle.prelude.specs.Limits.{most_pairs};
 
-use prelude::answers::{Numbered, NumberedFound, NumberedSize};
+use prelude::answers::{Numbered, NumberedFound, NumberedSize, in_numbers};
 
 pub fn glass_build(codes: &[u32], schedules: &[u32], words: &mut [u32]) -> Numbered
     ensures { BuildShown 65537 most_pairs codes.now schedules.now words.old result words.new }
@@ -19,7 +19,7 @@ pub fn glass_build(codes: &[u32], schedules: &[u32], words: &mut [u32]) -> Numbe
 pub fn glass_check(words: &[u32]) -> Numbered
     ensures { Shown (check_of 65537 most_pairs words.now) result }
 {
-    audit::numbered::numbered(audit::check::check(words))
+    in_numbers(audit::check::check(words).map(|accepted| accepted.total))
 }
 
 pub fn glass_lookup(words: &[u32], code: u32) -> NumberedFound
@@ -37,19 +37,19 @@ pub fn glass_panel(words: &[u32], holds: &[u32], codes: &[u32]) -> NumberedFound
 pub fn glass_pairs(words: &[u32], codes: &mut [u32], schedules: &mut [u32]) -> Numbered
     ensures { PairsShown 65537 most_pairs words.now codes.old schedules.old result codes.new schedules.new }
 {
-    reader::numbered::numbered(reader::pairs::pairs(words, codes, schedules))
+    in_numbers(reader::pairs::pairs(words, codes, schedules))
 }
 
 pub fn glass_insert(words: &[u32], code: u32, schedule: u32, second: &mut [u32]) -> Numbered
     ensures { InsertShown 65537 most_pairs words.now code schedule second.old result second.new }
 {
-    editor::numbered::numbered(editor::edit::insert(words, code, schedule, second))
+    in_numbers(editor::edit::insert(words, code, schedule, second))
 }
 
 pub fn glass_remove(words: &[u32], code: u32, second: &mut [u32]) -> Numbered
     ensures { RemoveShown 65537 most_pairs words.now code second.old result second.new }
 {
-    editor::numbered::numbered(editor::edit::remove(words, code, second))
+    in_numbers(editor::edit::remove(words, code, second))
 }
 
 pub fn glass_read_list(text: &[u8], codes: &mut [u32], schedules: &mut [u32]) -> NumberedSize

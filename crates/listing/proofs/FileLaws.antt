@@ -21,12 +21,11 @@ use Rattle.listing.specs.Listing.{FileListed}
 use Rattle.listing.specs.code.Lines.{table_lines}
 use Rattle.prelude.specs.Numbers.{Shown}
 use Rattle.prelude.specs.declared.answers.Numbered.{Numbered}
-use Rattle.audit.specs.Checked.{checked_of}
-use Rattle.audit.specs.declared.check.Checked.{Checked}
-use Rattle.audit.specs.declared.check.Checked.TheVariants.{Accepted, TooFewWords, TooManyCodes, TooManyCells, BadMultiplier, TooShort, BadStart, BadBlockMultiplier, BadCell, Misplaced, NotSquare, WrongCount}
-use Rattle.reader.specs.ReadBack.{read_of}
-use Rattle.reader.specs.declared.pairs.ReadBack.{ReadBack}
-use Rattle.reader.specs.declared.pairs.ReadBack.TheVariants.{Pairs, TooFewPlaces, Refused}
+use Rattle.audit.proofs.Answered.{refuses as refusal}
+use Rattle.prelude.proofs.Refusals.{never_both}
+use Rattle.reader.specs.ReadBack.{read_error_of}
+use Rattle.reader.specs.declared.pairs.ReadError.{ReadError}
+use Rattle.reader.specs.declared.pairs.ReadError.TheVariants.{TooFewPlaces, Refused}
 use Rattle.files.specs.Bytes.{words_of}
 use Rattle.listing.specs.Listing.{table_text, file_of, text_of, listing_of}
 use Rattle.lines.specs.Lines.{refused_line}
@@ -128,22 +127,7 @@ module _
       (λ (number, value, g). rw (g, s.number_shown, s.value_shown, refuses g))
       (accepted_or_refused p limit words)
 
--- a check answers with no single value, nor does reading back where it gives no pairs
-one_value : (c : Checked) {n : ℕ} → checked_of c ≡ given (n ∷ []) → ◌≡◌ {A = ℕ} 0 1
-one_value (Accepted m total) e = cc
-one_value TooFewWords e = cc
-one_value TooManyCodes e = cc
-one_value TooManyCells e = cc
-one_value BadMultiplier e = cc
-one_value (TooShort total) e = cc
-one_value (BadStart j) e = cc
-one_value (BadBlockMultiplier j) e = cc
-one_value (BadCell i) e = cc
-one_value (Misplaced i) e = cc
-one_value (NotSquare j) e = cc
-one_value (WrongCount codes) e = cc
-
-pub no_pairs : (read : ReadBack) → ((n : ℕ) → read ≡ Pairs n → ⊥) → (n : ℕ) → read_of read ≡ given (n ∷ []) → ⊥
-no_pairs (Pairs m) k n e = k m refl
-no_pairs (TooFewPlaces m) k n e = let z : ◌≡◌ {A = ℕ} 0 1 = cc in omega arith
-no_pairs (Refused checked) k n e = let z = one_value checked e in omega arith
+-- where reading back gives no pairs, it refuses
+pub no_pairs : (e : ReadError) (n : ℕ) → read_error_of e ≡ given (n ∷ []) → ⊥
+no_pairs (TooFewPlaces m) n h = never_both refl h
+no_pairs (Refused e) n h = never_both (refusal e).2 h

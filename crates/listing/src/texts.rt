@@ -9,10 +9,10 @@ ghost use Rattle.listing.specs.code.Lines.{table_lines};
 use decimal::put;
 use files::words_of;
 use lines::{pairs_length, put_named, put_pairs_before, put_refused};
+use prelude::answers::Refusal;
 use prelude::limits::ROOM;
 use prelude::numbers::wide;
-use reader::numbered::numbered;
-use reader::pairs::{ReadBack, pairs_for};
+use reader::pairs::pairs_for;
 
 // The first line of a table: its sizes and its multiplier.
 fn put_head(text: &mut [u8], at: usize, n: u32, c: u32, k: u32) -> usize
@@ -43,13 +43,16 @@ fn list_words(p: u32, limit: u32, words: &[u32], text: &mut [u8; 65536]) -> usiz
 {
     let mut codes = [0u32; ROOM];
     let mut schedules = [0u32; ROOM];
-    let read = pairs_for(p, limit, words, &mut codes, &mut schedules);
-    let ReadBack::Pairs(count) = read else {
-        let refusal = numbered(read);
-        return put_refused(text, 0, refusal.number, refusal.value);
-    };
-    let n = wide(count);
-    put_table(text, words, &codes[..n], &schedules[..n])
+    match pairs_for(p, limit, words, &mut codes, &mut schedules) {
+        Ok(count) => {
+            let n = wide(count);
+            put_table(text, words, &codes[..n], &schedules[..n])
+        }
+        Err(e) => {
+            let refusal = e.refusal();
+            put_refused(text, 0, refusal.number, refusal.value)
+        }
+    }
 }
 
 // The text for the bytes of a file.
