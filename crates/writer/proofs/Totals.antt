@@ -23,6 +23,10 @@ use Rattle.writer.specs.code.Grouping.{BlockOfEach, Loads}
 use Rattle.writer.specs.code.Writing.{Writable}
 use Rattle.writer.specs.code.Valid.{ValidBuilt, EmptyBuilt, one_table, OneBuilt}
 
+-- the same cells as a part of a sum
+pub least_wide : {p k c r : ℕ} {codes : List ℕ} → LeastBlocks p codes k c → r ≡ c → LeastBlocks p codes k r
+least_wide f e = record { multiplier = f.multiplier; cells = e ∙ f.cells }
+
 module _ {p k c : ℕ} {codes : List ℕ} (f : LeastBlocks p codes k c) where
   cells_is : c ≡ cells_of p codes
   unfolding cells_of

@@ -1,5 +1,6 @@
 // The table of a valid list: its total, and its words where they fit the room that is lent.
-ghost use Rattle.std.specs.Prelude.{◌<◌, ◌≡◌, length};
+ghost use Rattle.std.specs.Prelude.{◌<◌, ◌≤◌, ◌≡◌, length};
+ghost use Rattle.prelude.specs.Limits.{room};
 ghost use Rattle.search.specs.code.Searchable.{Searchable};
 ghost use Rattle.writer.specs.code.Valid.{ValidBuilt, EmptyBuilt, OneBuilt};
 
@@ -68,8 +69,26 @@ fn write_with(
     given
 }
 
-// The same of any list, with scratch buffers of its own, of the least size that serves it, since all of them are set to 0 at each call: none for the empty
-// list.
+// The same with scratch buffers of its own, of N places.
+fn write_in<const N: usize>(p: u32, codes: &[u32], schedules: &[u32], words: &mut [u32]) -> u32
+    requires searchable { Searchable p codes.now × ((0 < length codes.now) × (length schedules.now ≡ length codes.now)) }
+    requires places { (length codes.now ≤ N) × (N ≤ room) }
+    ensures { ValidBuilt p codes.now schedules.now words.old result words.new }
+{
+    let n = codes.len();
+    let mut blocks = [0u16; N];
+    let mut loads = [0u8; N];
+    write_with(
+        p,
+        codes,
+        schedules,
+        &mut blocks[..n],
+        &mut loads[..n],
+        words,
+    )
+}
+
+// The same of any list, with scratch buffers of the least size that serves it, since all of them are set to 0 at each call: none for the empty list.
 pub fn write_valid(p: u32, codes: &[u32], schedules: &[u32], words: &mut [u32]) -> u32
     requires searchable { Searchable p codes.now }
     requires schedules_len { length schedules.now ≡ length codes.now }
@@ -80,25 +99,7 @@ pub fn write_valid(p: u32, codes: &[u32], schedules: &[u32], words: &mut [u32]) 
         return write_empty(words);
     }
     if n <= FEW {
-        let mut blocks = [0u16; FEW];
-        let mut loads = [0u8; FEW];
-        return write_with(
-            p,
-            codes,
-            schedules,
-            &mut blocks[..n],
-            &mut loads[..n],
-            words,
-        );
+        return write_in::<FEW>(p, codes, schedules, words);
     }
-    let mut blocks = [0u16; ROOM];
-    let mut loads = [0u8; ROOM];
-    write_with(
-        p,
-        codes,
-        schedules,
-        &mut blocks[..n],
-        &mut loads[..n],
-        words,
-    )
+    write_in::<ROOM>(p, codes, schedules, words)
 }

@@ -26,7 +26,7 @@ fn write_header(shape: Shape, words: &mut [u32])
     requires codes_bound { (shape.codes < 4294967296) × (shape.cells < 4294967296) }
     ensures { words.new ≡ headed shape.codes shape.cells shape.multiplier (length words.old) }
 {
-    prelude::fill::fill(words, 0);
+    words.fill(0);
     words[0] = shape.codes as u32;
     words[1] = shape.cells as u32;
     words[2] = shape.multiplier;
@@ -44,7 +44,7 @@ fn write_front(shape: Shape, loads: &[u8], words: &mut [u32])
     let cells = multipliers + shape.codes;
     write_ends(loads, &mut words[3..multipliers]);
     // the multiplier of a block of at most one code
-    prelude::fill::fill(&mut words[multipliers..cells], 1);
+    words[multipliers..cells].fill(1);
 }
 
 // Writes all but the blocks of more codes than one, whose pairs are gathered in the first of their cells.
@@ -84,7 +84,7 @@ fn write_shared(
     let multipliers = 3 + shape.codes;
     let b = Block {
         start: multipliers + shape.codes + wide(words[3 + j]),
-        codes: loads[j] as usize,
+        codes: usize::from(loads[j]),
         cells: shape.cells,
     };
     let q = write_block(shape.prime, b, own, places, words);
@@ -116,10 +116,7 @@ pub(crate) fn write_table(
     }
     let mut own = [0u32; FEW];
     let mut places = [0u32; FEW];
-    let mut t = 0;
-    while t < shared {
-        let j = blocks[t] as usize;
-        write_shared(shape, loads, j, &mut own, &mut places, words);
-        t += 1;
+    for &j in &blocks[..shared] {
+        write_shared(shape, loads, usize::from(j), &mut own, &mut places, words);
     }
 }

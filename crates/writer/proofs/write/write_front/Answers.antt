@@ -10,4 +10,4 @@ returns c =
     let room : 3 + c.args.shape.codes ≤ length c.args.words.now = omega (arith, c.requires.words_len) in
     ones_back c.args.shape c.args.loads.now _ c.requires.codes_value _ c.requires.words_len
     (ends_back c.args.shape _ c.args.loads.now _ room c.write_header.ensures _ c.write_ends.ensures)
-    _ c.fill.ensures
+    _ (c.fill.ensures.after (λ y e. e))
