@@ -1,22 +1,46 @@
 // Building a table from a list (document 01, "Build"). A refusal changes no word.
-ghost use Rattle.std.specs.Prelude.{◌≤◌};
+ghost use Rattle.std.specs.Prelude.{◌≡◌, ◌≤◌};
 ghost use Rattle.hash.specs.Theorems.{Prime};
 ghost use Rattle.prelude.specs.Limits.{room, most_pairs};
 ghost use Rattle.builder.specs.Build.{Built};
-ghost use Rattle.builder.specs.Built.{built_of};
+ghost use Rattle.builder.specs.Built.{built_of, build_error_of};
+ghost use Rattle.builder.specs.declared.build.BuildError.TheVariants.{Refused};
 
-use lists::list::{ListAnswer, validate};
+use lists::list::{ListError, validate};
+use prelude::answers::{Numbered, Refusal};
 use prelude::limits::MOST_PAIRS;
+use prelude::numbers::wide;
 use writer::valid::write_valid;
 
-#[derive(Clone, Copy)]
-pub enum BuildAnswer {
-    // the total
-    Built(u32),
+// Why a table is not built.
+#[derive(Clone, Copy, Debug, PartialEq, Eq)]
+pub enum BuildError {
     // 6, with the total
     TooShort(u32),
     // 1 to 5
-    Refused(ListAnswer),
+    Refused(ListError),
+}
+
+impl From<ListError> for BuildError {
+    ghost from_gives = { λ e r. r ≡ Refused e };
+
+    fn from(e: ListError) -> BuildError {
+        BuildError::Refused(e)
+    }
+}
+
+impl Refusal for BuildError {
+    ghost refusal_of = { build_error_of };
+
+    fn refusal(self) -> Numbered {
+        match self {
+            BuildError::TooShort(total) => Numbered {
+                number: 6,
+                value: total,
+            },
+            BuildError::Refused(e) => e.refusal(),
+        }
+    }
 }
 
 // Builds the table of a list, for any prime and limit on the pairs. Gives the total; the words after the table are kept.
@@ -26,25 +50,22 @@ pub fn build_for(
     codes: &[u32],
     schedules: &[u32],
     words: &mut [u32],
-) -> BuildAnswer
+) -> Result<u32, BuildError>
     requires prime { Prime p }
     requires limit_le_room { limit ≤ room }
     ensures { Built p limit codes.now schedules.now words.old (built_of result) words.new }
 {
-    let listed = validate(p, limit, codes, schedules);
-    let ListAnswer::Valid = listed else {
-        return BuildAnswer::Refused(listed);
-    };
+    validate(p, limit, codes, schedules)?;
     let lent = words.len();
     let total = write_valid(p, codes, schedules, words);
-    if lent < (total as usize) {
-        return BuildAnswer::TooShort(total);
+    if lent < wide(total) {
+        return Err(BuildError::TooShort(total));
     }
-    BuildAnswer::Built(total)
+    Ok(total)
 }
 
 // Builds the table of a list with the prime 65,537, of at most 2,048 pairs.
-pub fn build(codes: &[u32], schedules: &[u32], words: &mut [u32]) -> BuildAnswer
+pub fn build(codes: &[u32], schedules: &[u32], words: &mut [u32]) -> Result<u32, BuildError>
     ensures { Built 65537 most_pairs codes.now schedules.now words.old (built_of result) words.new }
 {
     build_for(65537, MOST_PAIRS, codes, schedules, words)
