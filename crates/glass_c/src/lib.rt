@@ -13,7 +13,7 @@ use prelude::answers::{Numbered, NumberedFound, NumberedSize, in_numbers};
 pub fn glass_build(codes: &[u32], schedules: &[u32], words: &mut [u32]) -> Numbered
     ensures { BuildShown 65537 most_pairs codes.now schedules.now words.old result words.new }
 {
-    builder::numbered::numbered(builder::build::build(codes, schedules, words))
+    in_numbers(builder::build::build(codes, schedules, words))
 }
 
 pub fn glass_check(words: &[u32]) -> Numbered

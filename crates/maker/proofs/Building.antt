@@ -8,20 +8,20 @@ use borrow.Author.Tests.{ltb-false}
 use lib.Dec.{ltb}
 use lib.ListN.{length, take}
 use lib.Seq.{take_at, take_all}
+use Rattle.std.specs.Prelude.{Result, Ok, Err}
 use Rattle.prelude.specs.Answers.{Answer, given}
 use Rattle.prelude.specs.Numbers.{Shown}
 use Rattle.table.specs.TwoLevel.{words_needed, table_of}
 use Rattle.prelude.specs.declared.answers.Numbered.{Numbered}
 use Rattle.table.proofs.Contents.{table_length}
 use Rattle.prelude.proofs.Refusals.{Refusal, GivenOrRefused, refusals_given, refusals_given_or_refused, is_given}
-use Rattle.lists.specs.List.{list_or, listed_of}
-use Rattle.lists.specs.declared.list.ListAnswer.{ListAnswer}
-use Rattle.lists.specs.declared.list.ListAnswer.TheVariants as Listed
+use Rattle.lists.specs.List.{list_or}
+use Rattle.lists.proofs.Answered.{refuses}
 use Rattle.lists.proofs.Valid as Valid
 use Rattle.builder.specs.Build.{build_of, built_words, Built}
 use Rattle.builder.specs.Built.{built_of}
-use Rattle.builder.specs.declared.build.BuildAnswer.{BuildAnswer}
-use Rattle.builder.specs.declared.build.BuildAnswer.TheVariants as Case
+use Rattle.builder.specs.declared.build.BuildError.{BuildError}
+use Rattle.builder.specs.declared.build.BuildError.TheVariants.{TooShort, Refused}
 use Rattle.decimal.specs.code.Added.{Added}
 use Rattle.files.specs.Bytes.{bytes_of, BytesFilled}
 use Rattle.files.proofs.ByteLaws.{bytes_length}
@@ -46,19 +46,11 @@ module _ (p limit : ℕ) (codes schedules : List ℕ) (lent : ℕ) where
       let passed = refusals_given (tests p limit codes schedules lent) (words_needed p codes ∷ []) values e in
       ltb-false lent (words_needed p codes) passed.1.1.1.1.1.0
 
--- a list's answer has no single value, nor has a build's where nothing is built
-one_value : (l : ListAnswer) {n : ℕ} → listed_of l ≡ given (n ∷ []) → ◌≡◌ {A = ℕ} 0 1
-one_value Listed.Valid e = cc
-one_value Listed.LengthsDiffer e = cc
-one_value Listed.TooManyPairs e = cc
-one_value (Listed.BadCode i) e = cc
-one_value (Listed.BadSchedule i) e = cc
-one_value (Listed.Repeated i) e = cc
-
-pub none_built : (built : BuildAnswer) → ((total : ℕ) → built ≡ Case.Built total → ⊥) → (n : ℕ) → built_of built ≡ given (n ∷ []) → ⊥
-none_built (Case.Built total) k n e = k total refl
-none_built (Case.TooShort total) k n e = let z : ◌≡◌ {A = ℕ} 0 1 = cc in omega arith
-none_built (Case.Refused listed) k n e = let z = one_value listed e in omega arith
+-- an error is no value
+pub none_built : (built : Result ℕ BuildError) → ((total : ℕ) → built ≡ Ok total → ⊥) → (n : ℕ) → built_of built ≡ given (n ∷ []) → ⊥
+none_built (Ok total) k n e = k total refl
+none_built (Err (TooShort total)) k n e = let z : ◌≡◌ {A = ℕ} 0 1 = cc in omega arith
+none_built (Err (Refused listed)) k n e = let r = refuses listed in let is = r.2 in let z : ◌≡◌ {A = ℕ} 0 1 = cc in omega arith
 
 -- ---- what it leaves
 

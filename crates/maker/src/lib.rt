@@ -6,9 +6,10 @@ ghost use Rattle.decimal.specs.code.Added.{Added};
 ghost use Rattle.builder.specs.Build.{build_of};
 ghost use Rattle.maker.specs.Making.{bytes_for, TableMade};
 
-use builder::build::{BuildAnswer, build};
+use builder::build::build;
 use files::bytes_of;
 use lines::put_refused;
+use prelude::answers::in_numbers;
 use prelude::limits::ROOM;
 use prelude::numbers::wide;
 use suppliers::numbered::size_in_numbers;
@@ -22,8 +23,8 @@ fn make_built(codes: &[u32], schedules: &[u32], bytes: &mut [u8; 65536]) -> usiz
 {
     let mut words = [0u32; 16384];
     let built = build(codes, schedules, &mut words);
-    let BuildAnswer::Built(total) = built else {
-        let refusal = builder::numbered::numbered(built);
+    let Ok(total) = built else {
+        let refusal = in_numbers(built);
         return put_refused(bytes, 0, refusal.number, refusal.value);
     };
     let n = wide(total);

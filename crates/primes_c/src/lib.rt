@@ -5,8 +5,7 @@ ghost use Rattle.primes_c.specs.BuildFor.{BuildForShown};
 ghost use Rattle.prelude.specs.Limits.{most_pairs};
 
 use builder::build::build_for;
-use builder::numbered;
-use prelude::answers::Numbered;
+use prelude::answers::{Numbered, in_numbers};
 use prelude::limits::MOST_PAIRS;
 use table::primes::is_table_prime;
 
@@ -25,5 +24,5 @@ pub extern "C" fn glass_build_for(
             value: 0,
         };
     }
-    numbered::numbered(build_for(prime, MOST_PAIRS, codes, schedules, words))
+    in_numbers(build_for(prime, MOST_PAIRS, codes, schedules, words))
 }

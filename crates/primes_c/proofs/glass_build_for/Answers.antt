@@ -18,4 +18,4 @@ build_for-requires c =
 pub returns : goal.returns
 returns c =
     let is_one : is_table_prime c.args.prime ≡ true = sym c.is_table_prime.ensures ∙ c.if-not-is_table_prime.false in
-    one_of_three _ _ _ _ _ is_one c.build_for.ensures c.numbered.ensures
+    one_of_three _ _ _ _ _ is_one c.build_for.ensures c.in_numbers.ensures
