@@ -1,14 +1,13 @@
 // Building a table from a list (document 01, "Build"). A refusal changes no word.
-ghost use Rattle.std.specs.Prelude.{◌≡◌, ◌≤◌};
-ghost use Rattle.hash.specs.Theorems.{Prime};
-ghost use Rattle.prelude.specs.Limits.{room, most_pairs};
+ghost use Rattle.std.specs.Prelude.{◌≡◌};
+ghost use Rattle.prelude.specs.Limits.{most_pairs};
 ghost use Rattle.builder.specs.Build.{Built};
 ghost use Rattle.builder.specs.Built.{built_of, build_error_of};
 ghost use Rattle.builder.specs.declared.build.BuildError.TheVariants.{Refused};
 
 use lists::list::{ListError, validate};
 use prelude::answers::{Numbered, Refusal};
-use prelude::limits::MOST_PAIRS;
+use prelude::limits::Format;
 use prelude::numbers::wide;
 use writer::valid::write_valid;
 
@@ -43,21 +42,18 @@ impl Refusal for BuildError {
     }
 }
 
-// Builds the table of a list, for any prime and limit on the pairs. Gives the total; the words after the table are kept.
+// Builds the table of a list in a format. Gives the total; the words after the table are kept.
 pub fn build_for(
-    p: u32,
-    limit: u32,
+    format: Format,
     codes: &[u32],
     schedules: &[u32],
     words: &mut [u32],
 ) -> Result<u32, BuildError>
-    requires prime { Prime p }
-    requires limit_le_room { limit ≤ room }
-    ensures { Built p limit codes.now schedules.now words.old (built_of result) words.new }
+    ensures { Built format.prime format.limit codes.now schedules.now words.old (built_of result) words.new }
 {
-    validate(p, limit, codes, schedules)?;
+    validate(format, codes, schedules)?;
     let lent = words.len();
-    let total = write_valid(p, codes, schedules, words);
+    let total = write_valid(format.prime, codes, schedules, words);
     if lent < wide(total) {
         return Err(BuildError::TooShort(total));
     }
@@ -68,5 +64,5 @@ pub fn build_for(
 pub fn build(codes: &[u32], schedules: &[u32], words: &mut [u32]) -> Result<u32, BuildError>
     ensures { Built 65537 most_pairs codes.now schedules.now words.old (built_of result) words.new }
 {
-    build_for(65537, MOST_PAIRS, codes, schedules, words)
+    build_for(Format::product(), codes, schedules, words)
 }

@@ -9,7 +9,7 @@ ghost use Rattle.hash.specs.Theorems.{Prime};
 use comparing::{print_table, read_both_orders, read_words};
 use digests::lent::count_from;
 use lists::list::validate;
-use prelude::limits::MOST_PAIRS;
+use prelude::limits::{Format, MOST_PAIRS};
 use prelude::numbers::wide;
 use table::primes::is_table_prime;
 use writer::valid::write_valid;
@@ -17,7 +17,11 @@ use writer::valid::write_valid;
 fn build_and_print(p: u32, codes: &[u32], schedules: &[u32])
     requires { Prime p }
 {
-    let Ok(()) = validate(p, MOST_PAIRS, codes, schedules) else {
+    let format = Format {
+        prime: p,
+        limit: MOST_PAIRS,
+    };
+    let Ok(()) = validate(format, codes, schedules) else {
         return;
     };
     let mut words = [0u32; 16384];

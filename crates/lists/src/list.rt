@@ -1,11 +1,11 @@
 // The refusals of a list of pairs, in their order (document 01, "Build", 1 to 5).
-ghost use Rattle.std.specs.Prelude.{◌≤◌, [], ◌≡◌};
+ghost use Rattle.std.specs.Prelude.{[], ◌≡◌};
 ghost use Rattle.prelude.specs.Answers.{given};
-ghost use Rattle.prelude.specs.Limits.{room};
 ghost use Rattle.lists.specs.List.{list_or, listed_of, list_error_of};
 
 use crate::range::first_outside;
 use prelude::answers::{Numbered, Refusal};
+use prelude::limits::Format;
 use prelude::numbers::wide;
 use repeats::first_repeated;
 
@@ -53,19 +53,18 @@ impl Refusal for ListError {
     }
 }
 
-// Whether a list is valid, for any prime and limit on the pairs; otherwise the first of 1 to 5 that holds. Each test is over all pairs before the next.
-pub fn validate(p: u32, limit: u32, codes: &[u32], schedules: &[u32]) -> Result<(), ListError>
-    requires { (1 ≤ p) × (limit ≤ room) }
-    ensures { listed_of result ≡ list_or p limit codes.now schedules.now (given []) }
+// Whether a list is valid for a format; otherwise the first of 1 to 5 that holds. Each test is over all pairs before the next.
+pub fn validate(format: Format, codes: &[u32], schedules: &[u32]) -> Result<(), ListError>
+    ensures { listed_of result ≡ list_or format.prime format.limit codes.now schedules.now (given []) }
 {
     let n = codes.len();
     if n != schedules.len() {
         return Err(ListError::LengthsDiffer);
     }
-    if wide(limit) < n {
+    if wide(format.limit) < n {
         return Err(ListError::TooManyPairs);
     }
-    if let Some(i) = first_outside(p - 1, codes) {
+    if let Some(i) = first_outside(format.prime - 1, codes) {
         return Err(ListError::BadCode(i as u32));
     }
     if let Some(i) = first_outside(999, schedules) {

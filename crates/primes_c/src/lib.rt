@@ -6,7 +6,7 @@ ghost use Rattle.prelude.specs.Limits.{most_pairs};
 
 use builder::build::build_for;
 use prelude::answers::{Numbered, in_numbers};
-use prelude::limits::MOST_PAIRS;
+use prelude::limits::{Format, MOST_PAIRS};
 use table::primes::is_table_prime;
 
 #[unsafe(no_mangle)]
@@ -24,5 +24,9 @@ pub extern "C" fn glass_build_for(
             value: 0,
         };
     }
-    in_numbers(build_for(prime, MOST_PAIRS, codes, schedules, words))
+    let format = Format {
+        prime,
+        limit: MOST_PAIRS,
+    };
+    in_numbers(build_for(format, codes, schedules, words))
 }

@@ -10,10 +10,10 @@ use Rattle.primes_c.proofs.glass_build_for.Goals as goal
 pub returns-then-not-is_table_prime : goal.returns-then-not-is_table_prime
 returns-then-not-is_table_prime c = other_prime _ _ _ _ _ (sym c.is_table_prime.ensures ∙ c.if-not-is_table_prime.true)
 
-pub build_for-requires : goal.build_for-requires
-build_for-requires c =
+pub invariant_of-format : goal.invariant_of-format
+invariant_of-format c =
     let is_one : is_table_prime c.args.prime ≡ true = sym c.is_table_prime.ensures ∙ c.if-not-is_table_prime.false in
-    record { prime = table_prime _ is_one; limit_le_room = search rules }
+    record { is_prime = table_prime _ is_one; fits = search rules }
 
 pub returns : goal.returns
 returns c =
