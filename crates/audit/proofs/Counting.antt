@@ -25,6 +25,10 @@ pub byte_is : (b : Bool) → bool_byte b ≡ cond b 1 0
 byte_is true = refl
 byte_is false = refl
 
+pub byte_le : (b : Bool) → bool_byte b ≤ 1
+byte_le true = omega arith
+byte_le false = omega arith
+
 pub byte_not : (b : Bool) → bool_byte (not b) ≡ cond b 0 1
 byte_not true = refl
 byte_not false = refl

@@ -8,6 +8,7 @@ use native.Mathlib.Omega.{arith}
 use borrow.Author.Tests.{eq-eqb}
 use lib.Dec.{eqb}
 use lib.ListN.{length, get_or, set, take, drop, length-set}
+use lib.Seq.{length-take-le}
 use Rattle.hash.specs.Hash.{hash_of}
 use Rattle.hash.proofs.Counting.{hash_lt}
 use Rattle.prelude.specs.Answers.{some}
@@ -49,12 +50,11 @@ listed_next part old list count t l m before =
     }
 
 pub listed_all :
-    (part old list : List ℕ) (count t : ℕ) → length part ≤ t → ListedBelow part old list count t → PlacesListed part old count list
-listed_all part old list count t ge all =
+    (part old list : List ℕ) (count t : ℕ) → length part ≤ t → length part ≤ length old → ListedBelow part old list count t
+    → PlacesListed part (take count list)
+listed_all part old list count t ge room all =
     record {
-      long = all.long;
-      within = omega (arith, all.within, all.upto);
-      codes = omega (arith, all.counted, codes_end part t ge);
+      codes = length-take-le count list (omega (arith, all.within, all.upto, all.long)) ∙ omega (arith, all.counted, codes_end part t ge);
       places = all.places ∙ ap (chosen (holds part)) (le_antisymm all.upto ge);
     }
 

@@ -3,12 +3,11 @@
 ghost use Rattle.std.specs.Prelude.{◌<◌, ◌≤◌, ◌≡◌, length};
 ghost use Rattle.prelude.specs.Answers.{first_where, some};
 ghost use Rattle.prelude.specs.code.Choice.{chosen};
-ghost use Rattle.prelude.specs.code.Within.{Within};
 ghost use Rattle.audit.specs.Check.{codes_in};
 ghost use Rattle.audit.specs.code.Blocks.{elsewhere, not_own, holds, misplaced_in, Handed, PlacesListed, Tested};
 
 use hash::Hasher;
-use prelude::numbers::{occupied, one, wide};
+use prelude::numbers::wide;
 
 // The hash of a block's codes into its cells, and the block's number.
 #[derive(Clone, Copy)]
@@ -23,13 +22,6 @@ pub struct BlockHash {
 pub struct BlockTest {
     pub misplaced: bool,
     pub codes: usize,
-}
-
-// A number from a list.
-pub(crate) fn listed(place: u16) -> usize
-    ensures { Within place 65536 result }
-{
-    place as usize
 }
 
 // Code a belongs to another block than j.
@@ -56,28 +48,24 @@ pub(crate) fn count_codes(part: &[u32]) -> usize
     ensures { result ≡ codes_in part.now }
 {
     let mut codes: u32 = 0;
-    let mut t: usize = 0;
-    while t < part.len() {
-        codes += one(part[t] != 0);
-        t += 1;
+    for &a in part {
+        codes += u32::from(a != 0);
     }
     wide(codes)
 }
 
-// Lists the places that hold a code, by rising place, and gives their number.
-fn list_codes(part: &[u32], list: &mut [u16]) -> usize
+// Lists the places that hold a code, by rising place.
+fn list_codes<'a>(part: &[u32], list: &'a mut [u16]) -> &'a [u16]
     requires part_in_bounds { length part.now ≤ length list.old }
     requires list_len_bound { length list.old < 65536 }
-    ensures { PlacesListed part.now list.old result list.new }
+    ensures { PlacesListed part.now result.now }
 {
-    let mut count: usize = 0;
-    let mut t: usize = 0;
-    while t < part.len() {
+    let mut count = 0;
+    for (t, &a) in part.iter().enumerate() {
         list[count] = t as u16;
-        count = count + occupied(part[t]);
-        t = t + 1;
+        count += usize::from(a != 0);
     }
-    count
+    &list[..count]
 }
 
 // Whether one of the listed places is not its code's own.
@@ -86,11 +74,9 @@ fn some_misplaced(h: Hasher, b: BlockHash, part: &[u32], list: &[u16]) -> bool
     ensures { result ≡ some (length part.now) (misplaced_in h b part.now) }
 {
     let mut found = false;
-    let mut i: usize = 0;
-    while i < list.len() {
-        let t = listed(list[i]);
+    for &place in list {
+        let t = usize::from(place);
         found = found | not_own(h, b, t, part[t]);
-        i += 1;
     }
     found
 }
@@ -116,7 +102,7 @@ pub(crate) fn test_one(h: Hasher, b: BlockHash, part: &[u32]) -> BlockTest
     let a = part[0];
     BlockTest {
         misplaced: (a != 0) & elsewhere(h, b.number, a),
-        codes: occupied(a),
+        codes: usize::from(a != 0),
     }
 }
 
@@ -133,7 +119,9 @@ pub(crate) fn test_block(h: Hasher, b: BlockHash, part: &[u32], list: &mut [u16]
             codes: count_codes(part),
         };
     }
-    let codes = list_codes(part, list);
-    let misplaced = some_misplaced(h, b, part, &list[..codes]);
-    BlockTest { misplaced, codes }
+    let places = list_codes(part, list);
+    BlockTest {
+        misplaced: some_misplaced(h, b, part, places),
+        codes: places.len(),
+    }
 }

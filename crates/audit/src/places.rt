@@ -1,6 +1,6 @@
 // Conditions 19 and 20 of document 01 on tables that pass 11 to 18. Whether one of them holds of any block is told of all blocks first; which of them,
 // and of what cell or block, is looked for only where one does. A block's codes are handed on as the part of the words between its start and its end.
-ghost use Rattle.std.specs.Prelude.{◌+◌, ◌-◌, ◌<◌, ◌≤◌, ◌≡◌, length};
+ghost use Rattle.std.specs.Prelude.{◌+◌, ◌-◌, ◌<◌, ◌≤◌, ◌≡◌, true, length};
 ghost use Rattle.prelude.specs.Answers.{first_where, some};
 ghost use Rattle.table.specs.Words.{code_count, cell_count};
 ghost use Rattle.table.specs.code.Sized.{HashOf};
@@ -8,20 +8,13 @@ ghost use Rattle.audit.specs.Check.{misplaced, bad_square, block_codes};
 ghost use Rattle.audit.specs.code.Blocks.{Lined, Ranged, BlockHashOf};
 ghost use Rattle.audit.specs.code.Places.{cells_of, unsound, some_listed, InRun, OneEach, BlocksListed};
 
-use crate::blocks::{BlockHash, count_codes, first_misplaced, listed, test_block, test_one};
+use crate::blocks::{BlockHash, count_codes, first_misplaced, test_block, test_one};
 use hash::Hasher;
-use prelude::numbers::{one, wide};
+use prelude::numbers::wide;
 use table::words::{block_end, block_multiplier, block_start};
 
 // How many blocks are listed at a time.
 const RUN: usize = 32;
-
-// How many blocks of a run have one cell, and how many have more.
-#[derive(Clone, Copy)]
-pub struct Listed {
-    pub ones: usize,
-    pub more: usize,
-}
 
 // The codes of block j.
 fn block_codes(words: &[u32], j: usize) -> &[u32]
@@ -46,79 +39,61 @@ fn block_hash(words: &[u32], j: usize) -> BlockHash
     }
 }
 
-// 19 holds of a cell of block j, or 20 of the block, which has one cell.
-fn is_one_unsound(h: Hasher, words: &[u32], j: usize) -> bool
-    requires ranged { Ranged h.prime 65536 words.now × HashOf words.now h }
-    requires j_bound { (j < code_count words.now) × (cells_of words.now j ≡ 1) }
-    ensures { result ≡ unsound h.prime words.now j }
-{
-    let b = test_one(h, block_hash(words, j), block_codes(words, j));
-    b.misplaced | (1 != b.codes * b.codes)
-}
-
-// The same of a block that has any cells. The places are a scratch buffer.
-fn is_unsound(h: Hasher, words: &[u32], j: usize, places: &mut [u16]) -> bool
+// 19 holds of a cell of block j, or 20 of the block. With ONE the block has one cell, and otherwise any; then the places are a scratch buffer.
+fn is_unsound<const ONE: bool>(h: Hasher, words: &[u32], j: usize, places: &mut [u16]) -> bool
     requires ranged { Ranged h.prime 65536 words.now × HashOf words.now h }
     requires j_bound { (j < code_count words.now) × (length places.old < 65536) }
+    requires one { ONE ≡ true → cells_of words.now j ≡ 1 }
     ensures { result ≡ unsound h.prime words.now j }
 {
     let part = block_codes(words, j);
-    let b = test_block(h, block_hash(words, j), part, places);
+    let block = block_hash(words, j);
+    if ONE {
+        let b = test_one(h, block, part);
+        return b.misplaced | (1 != b.codes * b.codes);
+    }
+    let b = test_block(h, block, part, places);
     b.misplaced | (part.len() != b.codes * b.codes)
 }
 
-// The same of some of the listed blocks, which are numbered from `from` on and have one cell each.
-fn some_one_unsound(h: Hasher, words: &[u32], from: usize, list: &[u16]) -> bool
-    requires ranged { Ranged h.prime 65536 words.now × HashOf words.now h }
-    requires in_run { InRun words.now from list.now × OneEach words.now from list.now }
-    ensures { result ≡ some_listed h.prime words.now from list.now }
-{
-    let mut found = false;
-    let mut i: usize = 0;
-    while i < list.len() {
-        let t = listed(list[i]);
-        found = found | is_one_unsound(h, words, from + t);
-        i += 1;
-    }
-    found
-}
-
-// The same where they have any cells.
-fn some_unsound(h: Hasher, words: &[u32], from: usize, list: &[u16]) -> bool
+// The same of some of the listed blocks, which are numbered from `from` on.
+fn some_unsound<const ONE: bool>(h: Hasher, words: &[u32], from: usize, list: &[u16]) -> bool
     requires ranged { Ranged h.prime 65536 words.now × HashOf words.now h }
     requires in_run { InRun words.now from list.now }
+    requires one_each { ONE ≡ true → OneEach words.now from list.now }
     ensures { result ≡ some_listed h.prime words.now from list.now }
 {
     let mut places = [0u16; 81];
     let mut found = false;
-    let mut i: usize = 0;
-    while i < list.len() {
-        let t = listed(list[i]);
-        found = found | is_unsound(h, words, from + t, &mut places);
-        i += 1;
+    for &t in list {
+        found = found | is_unsound::<ONE>(h, words, from + usize::from(t), &mut places);
     }
     found
 }
 
 // Lists the blocks from `from` to before `to` that have one cell, and those that have more: branch-free, so that no branch on the cells of a block is
 // mispredicted, here or where they are tested. A block without cells is sound.
-fn list_blocks(words: &[u32], from: usize, to: usize, ones: &mut [u16], more: &mut [u16]) -> Listed
+fn list_blocks<'a>(
+    words: &[u32],
+    from: usize,
+    to: usize,
+    ones: &'a mut [u16],
+    more: &'a mut [u16],
+) -> (&'a [u16], &'a [u16])
     requires lined { Lined words.now × ((from ≤ to) × (to ≤ code_count words.now)) }
     requires to_bound { (to ≤ from + length ones.old) × ((to ≤ from + length more.old) × (length ones.old < 65536)) }
-    ensures { BlocksListed words.now from to result ones.new more.new }
+    ensures { BlocksListed words.now from to result.0.now result.1.now }
 {
-    let mut a: usize = 0;
-    let mut b: usize = 0;
-    let mut t: usize = 0;
-    while t < to - from {
+    let mut a = 0;
+    let mut b = 0;
+    for t in 0..to - from {
         let cells = block_end(words, from + t) - block_start(words, from + t);
         ones[a] = t as u16;
-        a += wide(one(cells == 1));
+        a += usize::from(cells == 1);
         more[b] = t as u16;
-        b += wide(one(1 < cells));
-        t += 1;
+        b += usize::from(1 < cells);
     }
-    Listed { ones: a, more: b }
+    (&ones[..a], &more[..b])
 }
 
 // 19 or 20 holds of a block from `from` to before `to`.
@@ -129,20 +104,8 @@ fn run_unsound(h: Hasher, words: &[u32], from: usize, to: usize) -> bool
 {
     let mut ones = [0u16; RUN];
     let mut more = [0u16; RUN];
-    let listed = list_blocks(words, from, to, &mut ones, &mut more);
-    let one = some_one_unsound(h, words, from, &ones[..listed.ones]);
-    one | some_unsound(h, words, from, &more[..listed.more])
-}
-
-// Where the run of blocks from j on ends: after `RUN` blocks, or with the last of n.
-fn run_end(j: usize, n: usize) -> usize
-    requires { (j < n) × (n < 4294967296) }
-    ensures { (j < result) × ((result ≤ j + 32) × (result ≤ n)) }
-{
-    if n - j < RUN {
-        return n;
-    }
-    j + RUN
+    let (ones, more) = list_blocks(words, from, to, &mut ones, &mut more);
+    some_unsound::<true>(h, words, from, ones) | some_unsound::<false>(h, words, from, more)
 }
 
 // 19 or 20 holds of any block.
@@ -152,11 +115,8 @@ pub(crate) fn any_unsound(h: Hasher, words: &[u32]) -> bool
 {
     let n = wide(words[0]);
     let mut found = false;
-    let mut j: usize = 0;
-    while j < n {
-        let to = run_end(j, n);
-        found = found | run_unsound(h, words, j, to);
-        j = to;
+    for from in (0..n).step_by(RUN) {
+        found = found | run_unsound(h, words, from, n.min(from + RUN));
     }
     found
 }

@@ -1,5 +1,5 @@
 -- One block of a table by itself: what the check hands on, and what it relies on there.
-use Rattle.std.specs.Prelude.{ℕ, ◌*◌, ◌-◌, ◌<◌, ◌≤◌, Bool, not, ◌&&◌, List, ◌≡◌, eqb, length, get_or, take}
+use Rattle.std.specs.Prelude.{ℕ, ◌*◌, ◌-◌, ◌<◌, ◌≤◌, Bool, not, ◌&&◌, List, ◌≡◌, eqb, length, get_or}
 use Rattle.hash.specs.Hash.{hash_of}
 use Rattle.hash.specs.declared.Hasher.{Hasher}
 use Rattle.prelude.specs.Answers.{some}
@@ -36,11 +36,9 @@ pub record Handed (h : Hasher) (b : BlockHash) (part : List ℕ) : Type 0 where
   pub codes_below : (t : ℕ) → t < length part → get_or part t 0 < h.prime
 
 -- all places that hold a code are listed
-pub record PlacesListed (part old : List ℕ) (r : ℕ) (new : List ℕ) : Type 0 where
-  pub long : length new ≡ length old
-  pub within : r ≤ length part
-  pub codes : r ≡ codes_in part
-  pub places : take r new ≡ chosen (holds part) (length part)
+pub record PlacesListed (part list : List ℕ) : Type 0 where
+  pub codes : length list ≡ codes_in part
+  pub places : list ≡ chosen (holds part) (length part)
 
 -- what the test of a block finds
 pub record Tested (h : Hasher) (b : BlockHash) (part : List ℕ) (r : BlockTest) : Type 0 where

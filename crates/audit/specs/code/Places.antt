@@ -1,10 +1,9 @@
 -- Conditions 19 and 20 block by block.
-use Rattle.std.specs.Prelude.{ℕ, ◌+◌, ◌-◌, ◌<◌, ◌≤◌, Bool, ◌||◌, List, ◌≡◌, eqb, ltb, length, get_or, take}
+use Rattle.std.specs.Prelude.{ℕ, ◌+◌, ◌-◌, ◌<◌, Bool, ◌||◌, List, ◌≡◌, eqb, ltb, length, get_or}
 use Rattle.prelude.specs.Answers.{some}
 use Rattle.table.specs.Words.{code_count, block_start, block_end}
 use Rattle.prelude.specs.code.Choice.{chosen}
 use Rattle.audit.specs.Check.{misplaced, bad_square}
-use Rattle.audit.specs.declared.places.Listed.{Listed}
 
 abbrev pub cells_of : List ℕ → ℕ → ℕ
 cells_of words j = block_end words j - block_start words j
@@ -27,8 +26,6 @@ abbrev pub some_listed : ℕ → List ℕ → ℕ → List ℕ → Bool
 some_listed p words from list = some (length list) (λ x. unsound p words (from + get_or list x 0))
 
 -- the blocks of one cell and those of more, counted from the first of a run on
-pub record BlocksListed (words : List ℕ) (from to : ℕ) (r : Listed) (ones more : List ℕ) : Type 0 where
-  pub ones_within : r.ones ≤ length ones
-  pub more_within : r.more ≤ length more
-  pub ones_are : take r.ones ones ≡ chosen (λ t. eqb (cells_of words (from + t)) 1) (to - from)
-  pub more_are : take r.more more ≡ chosen (λ t. ltb 1 (cells_of words (from + t))) (to - from)
+pub record BlocksListed (words : List ℕ) (from to : ℕ) (ones more : List ℕ) : Type 0 where
+  pub ones_are : ones ≡ chosen (λ t. eqb (cells_of words (from + t)) 1) (to - from)
+  pub more_are : more ≡ chosen (λ t. ltb 1 (cells_of words (from + t))) (to - from)

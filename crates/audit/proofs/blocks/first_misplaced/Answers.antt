@@ -1,7 +1,7 @@
 use mathlib.Core.Bool.{Bool, ◌&&◌}
 use mathlib.Core.Path.{◌≡◌, sym, ap, ◌∙◌}
 use native.Mathlib.Omega.{arith}
-use Rattle.prelude.proofs.First.{below_none, below_next}
+use Rattle.prelude.proofs.First.{below_next}
 use Rattle.prelude.proofs.Where.{where_found, where_none}
 use Rattle.audit.specs.code.Blocks.{holds, misplaced_in}
 use Rattle.audit.proofs.blocks.first_misplaced.Goals as goal

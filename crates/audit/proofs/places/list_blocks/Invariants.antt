@@ -1,5 +1,4 @@
--- `audit::places::list_blocks` meets its contract. The loop's invariant: of the first t blocks of the run those of one cell and those of more are listed. The
--- measure is what is left.
+-- `audit::places::list_blocks` meets its contract. The loop's invariant: of the first t blocks of the run those of one cell and those of more are listed.
 use Prim.Native.Nat.{ℕ, ◌+◌, ◌-◌, ◌≤◌}
 use mathlib.Core.List.{List}
 use mathlib.Core.Path.{◌≡◌}
@@ -20,6 +19,3 @@ pub record Listing (words : List ℕ) (from to : ℕ) (ones₀ more₀ ones more
 
 abbrev pub invariant-loop-t : goal.invariant-loop-t
 invariant-loop-t l = Listing l.words l.from l.to l.initial.ones l.initial.more l.ones l.more l.a l.b l.t
-
-abbrev pub decreases-loop-t : goal.decreases-loop-t
-decreases-loop-t l = (l.to - l.from) - l.t

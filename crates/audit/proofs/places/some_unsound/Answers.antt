@@ -1,11 +1,10 @@
 use mathlib.Core.Bool.{◌||◌}
 use mathlib.Core.Path.{sym, ap₂, ◌∙◌}
-use native.Mathlib.Omega.{arith}
 use Rattle.prelude.proofs.Some.{some_next}
 use Rattle.audit.proofs.places.some_unsound.Goals as goal
 
-pub loop-i-preserved : goal.loop-i-preserved
-loop-i-preserved c = (
-  c.is_unsound-found.auto.places ∙ c.loop-i.invariant.0,
-  (omega arith, ap₂ ◌||◌ c.loop-i.invariant.1.1 (rw c.listed-t.ensures.value at c.is_unsound-found.ensures) ∙ sym (some_next _ _)),
+pub loop-t-preserved : goal.loop-t-preserved
+loop-t-preserved g c = (
+  c.is_unsound-found.auto.places ∙ c.loop-t.invariant.0,
+  ap₂ ◌||◌ c.loop-t.invariant.1 (rw c.from.ensures at c.is_unsound-found.ensures) ∙ sym (some_next _ _),
 )

@@ -1,9 +1,8 @@
-use Prim.Native.Nat.{zero}
-use mathlib.Core.Bool.{◌||◌, true, false}
-use mathlib.Core.Path.{sym, ap, ap₂, ◌∙◌}
+use mathlib.Core.Bool.{◌||◌}
+use mathlib.Core.Path.{sym, ap₂, ◌∙◌}
 use native.Mathlib.Omega.{arith}
-use Rattle.prelude.proofs.First.{below_none, below_next}
-use Rattle.prelude.proofs.Some.{some_one, some_next, none_below}
+use Rattle.prelude.proofs.First.{below_next}
+use Rattle.prelude.proofs.Some.{some_one, some_next}
 use Rattle.prelude.proofs.Where.{where_found, where_none}
 use Rattle.audit.proofs.ranges.first_where.Goals as goal
 
