@@ -89,17 +89,6 @@ fn key(run: Run, i: u32, a: u32) -> u32
     place + turn(run.prime, run.places, s)
 }
 
-// The keys of all codes.
-fn fill_keys(run: Run, codes: &[u32], keys: &mut [u32])
-    requires runs { Runs run codes.now × Ends run run.step }
-    requires keys_len { length keys.old ≡ length codes.now }
-    ensures { keys.new ≡ keys_of run codes.now }
-{
-    for (i, &a) in codes.iter().enumerate() {
-        keys[i] = key(run, i as u32, a);
-    }
-}
-
 // How many codes that go straight on a code that wraps once is together with, at the least: before the wrap, or after it.
 fn company(run: Run, keys: &[u32], own: u32, a: u32) -> u32
     requires first_lt_prime { (run.first < run.prime) × ((run.step < run.prime) × (a < run.prime)) }
@@ -123,43 +112,6 @@ fn company(run: Run, keys: &[u32], own: u32, a: u32) -> u32
     before.min(later)
 }
 
-// Whether more pairs of codes than may are together at each multiplier of a run: those with equal keys, and those of a code that wraps once. Left early.
-fn too_many(run: Run, codes: &[u32], keys: &[u32]) -> bool
-    requires runs { Runs run codes.now × Ends run run.step }
-    requires keys_len { length keys.now ≡ length codes.now }
-    ensures { result ≡ ltb run.most (equal_pairs keys.now + companies run keys.now keys.now codes.now) }
-{
-    let mut pairs: u32 = 0;
-    for i in (0..keys.len()).rev() {
-        let own = keys[i];
-        pairs += equals(&keys[i + 1..], own) + company(run, keys, own, codes[i]);
-        if run.most < pairs {
-            return true;
-        }
-    }
-    false
-}
-
-// How many of the first multipliers of a run are known to fail: none where the first may pass. As far as the run reaches, or half as far, or a quarter ..
-fn failing(run: Run, codes: &[u32], keys: &mut [u32]) -> u32
-    requires runs { Runs run codes.now × Ends run run.step }
-    requires keys_len { length keys.old ≡ length codes.now }
-    ensures { Fail run run.step codes.now result × (length keys.new ≡ length codes.now) }
-{
-    let mut reach = run.reach;
-    loop {
-        let shorter = Run { reach, ..run };
-        fill_keys(shorter, codes, keys);
-        if too_many(shorter, codes, keys) {
-            return reach + 1;
-        }
-        if reach == 0 {
-            return 0;
-        }
-        reach = reach / 2;
-    }
-}
-
 // How many of the first multipliers of a run fail: all of them, or as many as come before one that may pass; and how far to try the first jump of the next run.
 #[derive(Clone, Copy)]
 pub struct Walked {
@@ -167,33 +119,94 @@ pub struct Walked {
     pub guess: u32,
 }
 
-// Jump after jump along a run. Each one that works doubles the next.
-fn walk(run: Run, last: u32, codes: &[u32], keys: &mut [u32]) -> Walked
-    requires runs { Runs run codes.now × Ends run run.step }
-    requires keys_len { length keys.old ≡ length codes.now }
-    ensures { Fail run run.step codes.now result.failed × (length keys.new ≡ length codes.now) }
-{
-    let mut done: u32 = 0;
-    let mut guess = last;
-    while done <= run.reach {
-        let rest = Run {
-            first: run.first + done * run.step,
-            reach: guess.min(run.reach - done),
-            ..run
-        };
-        let more = failing(rest, codes, keys);
-        if more == 0 {
-            return Walked {
-                failed: done,
-                guess,
-            };
+// A run below the prime, and the codes that it is tried for.
+#[derive(Clone, Copy)]
+struct Trial<'a> {
+    run: Run,
+    codes: &'a [u32],
+    ghost runs: { Runs run codes.now },
+    ghost ends: { Ends run run.step },
+}
+
+impl<'a> Trial<'a> {
+    // The keys of all codes.
+    fn fill_keys(&self, keys: &mut [u32])
+        requires { length keys.old ≡ length self.now.codes.now }
+        ensures { keys.new ≡ keys_of self.now.run self.now.codes.now }
+    {
+        for (i, &a) in self.codes.iter().enumerate() {
+            keys[i] = key(self.run, i as u32, a);
         }
-        done += more;
-        guess = more.saturating_add(more);
     }
-    Walked {
-        failed: done,
-        guess,
+
+    // Whether more pairs of codes than may are together at each multiplier: those with equal keys, and those of a code that wraps once. Left early.
+    fn too_many(&self, keys: &[u32]) -> bool
+        requires { length keys.now ≡ length self.now.codes.now }
+        ensures { result ≡ ltb self.now.run.most (equal_pairs keys.now + companies self.now.run keys.now keys.now self.now.codes.now) }
+    {
+        let mut pairs: u32 = 0;
+        for i in (0..keys.len()).rev() {
+            let own = keys[i];
+            pairs += equals(&keys[i + 1..], own) + company(self.run, keys, own, self.codes[i]);
+            if self.run.most < pairs {
+                return true;
+            }
+        }
+        false
+    }
+
+    // How many of the first multipliers are known to fail: none where the first may pass. As far as the run reaches, or half as far, or a quarter ..
+    fn failing(&self, keys: &mut [u32]) -> u32
+        requires { length keys.old ≡ length self.now.codes.now }
+        ensures { Fail self.now.run self.now.run.step self.now.codes.now result × (length keys.new ≡ length self.now.codes.now) }
+    {
+        let mut reach = self.run.reach;
+        loop {
+            let shorter = Trial {
+                run: Run { reach, ..self.run },
+                codes: self.codes,
+            };
+            shorter.fill_keys(keys);
+            if shorter.too_many(keys) {
+                return reach + 1;
+            }
+            if reach == 0 {
+                return 0;
+            }
+            reach = reach / 2;
+        }
+    }
+
+    // Jump after jump. Each one that works doubles the next.
+    fn walk(&self, last: u32, keys: &mut [u32]) -> Walked
+        requires { length keys.old ≡ length self.now.codes.now }
+        ensures { Fail self.now.run self.now.run.step self.now.codes.now result.failed × (length keys.new ≡ length self.now.codes.now) }
+    {
+        let mut done: u32 = 0;
+        let mut guess = last;
+        while done <= self.run.reach {
+            let rest = Trial {
+                run: Run {
+                    first: self.run.first + done * self.run.step,
+                    reach: guess.min(self.run.reach - done),
+                    ..self.run
+                },
+                codes: self.codes,
+            };
+            let more = rest.failing(keys);
+            if more == 0 {
+                return Walked {
+                    failed: done,
+                    guess,
+                };
+            }
+            done += more;
+            guess = more.saturating_add(more);
+        }
+        Walked {
+            failed: done,
+            guess,
+        }
     }
 }
 
@@ -226,7 +239,11 @@ fn stretch(run: Run, codes: &[u32], keys: &mut [u32]) -> u32
             reach: (found - 1 - i) / run.step,
             ..run
         };
-        let walked = walk(remainder, guess, codes, keys);
+        let walked = Trial {
+            run: remainder,
+            codes,
+        }
+        .walk(guess, keys);
         found = nearer(remainder, walked.failed, i, found);
         guess = walked.guess;
     }

@@ -8,16 +8,16 @@ use lib.ListN.{length}
 use Rattle.jumps.specs.code.Jumps.{run_from}
 use Rattle.jumps.proofs.Keys.{keys_fail, keys_sized, joined}
 use Rattle.jumps.proofs.Passing.{runs_on}
-use Rattle.jumps.proofs.runs.failing.Goals as goal
+use Rattle.jumps.proofs.runs.Trial.failing.Goals as goal
 
 pub returns-then-too_many : goal.returns-then-too_many
 returns-then-too_many c =
     let failed =
-    keys_fail (runs_on c.requires.runs.0 c.requires.runs.1 c.args.run.first c.loop-run.reach)
+    keys_fail (runs_on c.args.self.now.runs c.args.self.now.ends c.args.self.now.run.first c.loop-reach.reach)
     (ltb-true _ _ (
-    ap (λ (s : List ℕ). ltb c.args.run.most (joined (run_from c.args.run c.args.run.step c.args.run.first c.loop-run.reach) s s c.args.codes.now))
+    ap (λ (s : List ℕ). ltb c.args.self.now.run.most (joined (run_from c.args.self.now.run c.args.self.now.run.step c.args.self.now.run.first c.loop-reach.reach) s s c.args.self.now.codes.now))
     (sym c.fill_keys.ensures)
     ∙ sym c.too_many.ensures
     ∙ c.if-too_many.true
     )) in
-    (record { within = omega (arith, failed.within, c.loop-run.invariant.0); over = failed.over }, ap length c.fill_keys.ensures ∙ keys_sized _ _)
+    (record { within = omega (arith, failed.within, c.loop-reach.invariant.0); over = failed.over }, ap length c.fill_keys.ensures ∙ keys_sized _ _)

@@ -1,6 +1,0 @@
--- `jumps::runs::fill_keys` meets its contract. The loop's invariant is `Keyed`.
-use Rattle.jumps.proofs.Keys.{Keyed}
-use Rattle.jumps.proofs.runs.fill_keys.Given as goal
-
-abbrev pub invariant-loop-i : goal.invariant-loop-i
-invariant-loop-i l = Keyed l.run l.codes l.i l.keys
