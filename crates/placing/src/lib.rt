@@ -63,9 +63,11 @@ fn take_first(cells: &mut [u32], first: &mut [u32])
     ensures cells_after { cells.new ≡ replicate (length cells.old) 0 }
     ensures first_after { first.new ≡ take (length first.old) cells.old }
 {
-    let taken = &mut cells[..first.len()];
-    first.copy_from_slice(taken);
-    taken.fill(0);
+    // element by element: most blocks have three codes, for which a copy and a fill would be two calls
+    for (i, x) in first.iter_mut().enumerate() {
+        *x = cells[i];
+        cells[i] = 0;
+    }
 }
 
 // The codes in the first of their cells, moved to their places by the block's least multiplier. Once they are taken out, the cells are first the scratch
