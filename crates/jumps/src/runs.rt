@@ -119,7 +119,7 @@ pub struct Walked {
     pub guess: u32,
 }
 
-// A run below the prime, and the codes that it is tried for.
+// A run below the prime, and the codes that it is tried for. Passed by value: behind a reference the tests of the prime stay inside the loops over codes.
 #[derive(Clone, Copy)]
 struct Trial<'a> {
     run: Run,
@@ -130,9 +130,9 @@ struct Trial<'a> {
 
 impl<'a> Trial<'a> {
     // The keys of all codes.
-    fn fill_keys(&self, keys: &mut [u32])
-        requires { length keys.old ≡ length self.now.codes.now }
-        ensures { keys.new ≡ keys_of self.now.run self.now.codes.now }
+    fn fill_keys(self, keys: &mut [u32])
+        requires { length keys.old ≡ length self.codes.now }
+        ensures { keys.new ≡ keys_of self.entry.run self.entry.codes.now }
     {
         for (i, &a) in self.codes.iter().enumerate() {
             keys[i] = key(self.run, i as u32, a);
@@ -140,9 +140,9 @@ impl<'a> Trial<'a> {
     }
 
     // Whether more pairs of codes than may are together at each multiplier: those with equal keys, and those of a code that wraps once. Left early.
-    fn too_many(&self, keys: &[u32]) -> bool
-        requires { length keys.now ≡ length self.now.codes.now }
-        ensures { result ≡ ltb self.now.run.most (equal_pairs keys.now + companies self.now.run keys.now keys.now self.now.codes.now) }
+    fn too_many(self, keys: &[u32]) -> bool
+        requires { length keys.now ≡ length self.codes.now }
+        ensures { result ≡ ltb self.entry.run.most (equal_pairs keys.now + companies self.entry.run keys.now keys.now self.entry.codes.now) }
     {
         let mut pairs: u32 = 0;
         for i in (0..keys.len()).rev() {
@@ -156,9 +156,9 @@ impl<'a> Trial<'a> {
     }
 
     // How many of the first multipliers are known to fail: none where the first may pass. As far as the run reaches, or half as far, or a quarter ..
-    fn failing(&self, keys: &mut [u32]) -> u32
-        requires { length keys.old ≡ length self.now.codes.now }
-        ensures { Fail self.now.run self.now.run.step self.now.codes.now result × (length keys.new ≡ length self.now.codes.now) }
+    fn failing(self, keys: &mut [u32]) -> u32
+        requires { length keys.old ≡ length self.codes.now }
+        ensures { Fail self.entry.run self.entry.run.step self.entry.codes.now result × (length keys.new ≡ length self.entry.codes.now) }
     {
         let mut reach = self.run.reach;
         loop {
@@ -178,9 +178,9 @@ impl<'a> Trial<'a> {
     }
 
     // Jump after jump. Each one that works doubles the next.
-    fn walk(&self, last: u32, keys: &mut [u32]) -> Walked
-        requires { length keys.old ≡ length self.now.codes.now }
-        ensures { Fail self.now.run self.now.run.step self.now.codes.now result.failed × (length keys.new ≡ length self.now.codes.now) }
+    fn walk(self, last: u32, keys: &mut [u32]) -> Walked
+        requires { length keys.old ≡ length self.codes.now }
+        ensures { Fail self.entry.run self.entry.run.step self.entry.codes.now result.failed × (length keys.new ≡ length self.entry.codes.now) }
     {
         let mut done: u32 = 0;
         let mut guess = last;

@@ -13,9 +13,9 @@ use Rattle.jumps.proofs.runs.Trial.failing.Goals as goal
 pub returns-then-too_many : goal.returns-then-too_many
 returns-then-too_many c =
     let failed =
-    keys_fail (runs_on c.args.self.now.runs c.args.self.now.ends c.args.self.now.run.first c.loop-reach.reach)
+    keys_fail (runs_on c.args.self.runs c.args.self.ends c.args.self.run.first c.loop-reach.reach)
     (ltb-true _ _ (
-    ap (λ (s : List ℕ). ltb c.args.self.now.run.most (joined (run_from c.args.self.now.run c.args.self.now.run.step c.args.self.now.run.first c.loop-reach.reach) s s c.args.self.now.codes.now))
+    ap (λ (s : List ℕ). ltb c.args.self.run.most (joined (run_from c.args.self.run c.args.self.run.step c.args.self.run.first c.loop-reach.reach) s s c.args.self.codes.now))
     (sym c.fill_keys.ensures)
     ∙ sym c.too_many.ensures
     ∙ c.if-too_many.true

@@ -20,42 +20,42 @@ counted :
 counted {r} {i} x s pos e = e ∙ ap (equals x) (rest_after s i pos)
 
 pub loop-i-init : goal.loop-i-init
-loop-i-init c = (omega arith, (omega arith, sym (joined_none c.args.self.now.run c.args.keys.now c.args.keys.now c.args.self.now.codes.now)))
+loop-i-init c = (omega arith, (omega arith, sym (joined_none c.args.self.run c.args.keys.now c.args.keys.now c.args.self.codes.now)))
 
 pub overflow_add-pairs : goal.overflow_add-pairs
 overflow_add-pairs c =
     omega (
       arith,
-      more_short c.args.self.now.run c.args.keys.now (get_or c.args.keys.now (c.loop-i.i - 1) 0) (get_or c.args.self.now.codes.now (c.loop-i.i - 1) 0) c.loop-i.i,
+      more_short c.args.self.run c.args.keys.now (get_or c.args.keys.now (c.loop-i.i - 1) 0) (get_or c.args.self.codes.now (c.loop-i.i - 1) 0) c.loop-i.i,
       counted _ _ c.loop-i-test.true c.equals.ensures,
       c.company.ensures,
       c.requires,
-      c.args.self.now.runs.short,
+      c.args.self.runs.short,
     )
 
 pub overflow_add-pairs-in-loop-i : goal.overflow_add-pairs-in-loop-i
 overflow_add-pairs-in-loop-i c =
     omega (
       arith,
-      more_short c.args.self.now.run c.args.keys.now (get_or c.args.keys.now (c.loop-i.i - 1) 0) (get_or c.args.self.now.codes.now (c.loop-i.i - 1) 0) c.loop-i.i,
+      more_short c.args.self.run c.args.keys.now (get_or c.args.keys.now (c.loop-i.i - 1) 0) (get_or c.args.self.codes.now (c.loop-i.i - 1) 0) c.loop-i.i,
       counted _ _ c.loop-i-test.true c.equals.ensures,
       c.company.ensures,
       c.requires,
-      c.args.self.now.runs.short,
+      c.args.self.runs.short,
       c.loop-i.invariant.1.0,
-      c.args.self.now.runs.bounded,
+      c.args.self.runs.bounded,
     )
 
 pub returns-then-self-pairs : goal.returns-then-self-pairs
 returns-then-self-pairs c =
-    sym (lt-ltb c.args.self.now.run.most (joined c.args.self.now.run c.args.keys.now c.args.keys.now c.args.self.now.codes.now) (omega (
+    sym (lt-ltb c.args.self.run.most (joined c.args.self.run c.args.keys.now c.args.keys.now c.args.self.codes.now) (omega (
       arith,
       c.loop-i.invariant.1.1,
       counted _ _ c.loop-i-test.true c.equals.ensures,
       c.company.ensures,
       c.if-self-pairs.true,
-      joined_more c.args.self.now.run c.args.keys.now c.args.keys.now c.args.self.now.codes.now c.loop-i.i c.requires (omega arith) c.loop-i.invariant.0,
-      joined_drop c.args.self.now.run c.args.keys.now c.args.keys.now c.args.self.now.codes.now (c.loop-i.i - 1),
+      joined_more c.args.self.run c.args.keys.now c.args.keys.now c.args.self.codes.now c.loop-i.i c.requires (omega arith) c.loop-i.invariant.0,
+      joined_drop c.args.self.run c.args.keys.now c.args.keys.now c.args.self.codes.now (c.loop-i.i - 1),
     )))
 
 pub loop-i-preserved : goal.loop-i-preserved
@@ -68,7 +68,7 @@ loop-i-preserved c = (
       c.loop-i.invariant.1.1,
       counted _ _ c.loop-i-test.true c.equals.ensures,
       c.company.ensures,
-      joined_more c.args.self.now.run c.args.keys.now c.args.keys.now c.args.self.now.codes.now c.loop-i.i c.requires (omega arith) c.loop-i.invariant.0,
+      joined_more c.args.self.run c.args.keys.now c.args.keys.now c.args.self.codes.now c.loop-i.i c.requires (omega arith) c.loop-i.invariant.0,
     ),
   ),
 )

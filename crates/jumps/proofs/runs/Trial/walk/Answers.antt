@@ -6,8 +6,8 @@ use Rattle.jumps.proofs.runs.Trial.walk.Goals as goal
 
 pub loop-done-preserved : goal.loop-done-preserved
 loop-done-preserved c = (
-  fail_on c.args.self.now.runs c.args.self.now.ends c.loop-done-test.true
-      (omega (arith, c.min.ensures, min-le_right c.loop-done.guess (c.args.self.now.run.reach - c.loop-done.done)))
+  fail_on c.args.self.runs c.args.self.ends c.loop-done-test.true
+      (omega (arith, c.min.ensures, min-le_right c.loop-done.guess (c.args.self.run.reach - c.loop-done.done)))
       c.loop-done.invariant.0 c.failing-more.ensures.0,
   c.failing-more.ensures.1,
 )
