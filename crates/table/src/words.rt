@@ -55,6 +55,7 @@ pub fn too_short(words: &[u32]) -> bool
 }
 
 // Any of 12 to 15.
+#[tactic(auto, unfolding(crate::specs::Sizes::bad_sizes))]
 pub fn bad_sizes(p: u32, limit: u32, words: &[u32]) -> bool
     requires { (1 ≤ p) × (3 ≤ length words.now) }
     ensures { result ≡ bad_sizes p limit words.now }
@@ -72,6 +73,7 @@ pub fn bad_sizes(p: u32, limit: u32, words: &[u32]) -> bool
 }
 
 // Whether a lookup comes to a block: three words, n above 0, and none of 12 to 15.
+#[tactic(auto, unfolding(crate::specs::code::Sized::has_blocks))]
 pub fn has_blocks(p: u32, limit: u32, words: &[u32]) -> bool
     requires { 1 ≤ p }
     ensures { result ≡ has_blocks p limit words.now }
@@ -129,6 +131,7 @@ pub fn cell_schedule(words: &[u32], i: usize) -> u32
 }
 
 // The block that a code belongs to.
+#[tactic(auto, unfolding(crate::specs::Words::block_of))]
 pub fn block_of(p: u32, words: &[u32], code: u32) -> usize
     requires in_bounds { (3 ≤ length words.now) × (0 < code_count words.now) }
     requires words_bound { (multiplier words.now < p) × (code < p) }
@@ -147,6 +150,7 @@ pub fn table_hash(p: u32, words: &[u32]) -> Hasher
 }
 
 // The cell of block j, which has cells, that is a code's own, counted over the whole table.
+#[tactic(auto, unfolding(crate::specs::Words::cell_in))]
 pub fn cell_in(p: u32, words: &[u32], j: usize, code: u32) -> usize
     requires block { Block words.now j × (block_start words.now j < block_end words.now j) }
     requires j_bound { (block_multiplier words.now j < p) × (code < p) }
