@@ -1,24 +1,24 @@
 -- The packed answer of a lookup, over plain words: what is picked of a cell, and the block's answer from the one cell that is read.
 use Prim.Native.Nat.{ℕ, max, ◌+◌, ◌*◌, ◌-◌, ◌<◌, ◌≤◌}
 use mathlib.Core.Bool.{Bool, true, false, cond, not, ◌||◌, true≢false}
-use mathlib.Core.List.{List, [], ◌∷◌}
+use mathlib.Core.List.{List}
 use mathlib.Core.Logic.{inl, inr}
 use mathlib.Core.Path.{◌≡◌, refl, sym, subst}
 use native.Mathlib.Decide.{ℕ_discrete}
-use native.Mathlib.Nat.{mul-mod_left, mul-div_cancel, eq-or-lt_of_le, add_right_comm}
+use native.Mathlib.Nat.{eq-or-lt_of_le, add_right_comm}
 use native.Mathlib.Omega.{arith}
 use borrow.Author.Tests.{eq-eqb, ne_eqb, le-ltb, ltb-true, ltb-false}
 use lib.Dec.{eqb, ltb}
 use lib.ListN.{length}
 use Rattle.hash.specs.Hash.{hash_of}
 use Rattle.hash.proofs.Indicators.{true_or_false}
-use Rattle.prelude.specs.Answers.{Answer, given, absent, refuse, outside}
+use Rattle.prelude.specs.Answers.{Answer, absent, refuse, outside}
 use Rattle.table.specs.Words.{code_count, cell_count, block_start, block_end, block_multiplier, cell_in}
 use Rattle.table.specs.Sizes.{bad_sizes}
 use Rattle.lookup.specs.Lookup.{in_cell, in_block, lookup_of}
 use Rattle.prelude.specs.Numbers.{FoundShown}
 use Rattle.prelude.specs.declared.answers.NumberedFound.{NumberedFound}
-use Rattle.table.specs.code.Sized.{has_blocks}
+use Rattle.table.specs.code.Sized.{has_blocks, Part}
 use Rattle.lookup.specs.code.OneWord.{word_answer, cell_at, probe_answer, unreadable}
 use Rattle.prelude.proofs.Laws.{or_false}
 use Rattle.lookup.proofs.Steps.{no_codes}
@@ -27,30 +27,16 @@ use Rattle.lookup.proofs.Steps.{no_codes}
 pub shown_as : {x y : Answer} {r : NumberedFound} → x ≡ y → FoundShown x r → FoundShown y r
 shown_as {r = r} e = subst (λ (answer : Answer). FoundShown answer r) e
 
--- a schedule in the upper half
-pub word_answer_given : (s cell : ℕ) → word_answer (s * 4294967296) cell ≡ given (s ∷ cell ∷ [])
-unfolding word_answer
-word_answer_given s cell = rw (mul-mod_left s 4294967296, mul-div_cancel s {n = 4294967296} (omega arith))
-
--- no cells, or another code: absent; a schedule out of range: 34
-pub picked :
-    (none same bad : Bool) (s cell : ℕ)
-    → word_answer (cond none 1000 (cond same (cond bad 34 (s * 4294967296)) 1000)) cell
-    ≡ cond none absent (cond same (refuse bad 34 0 (given (s ∷ cell ∷ []))) absent)
-unfolding word_answer
-picked true same bad s cell = refl
-picked false true true s cell = refl
-picked false true false s cell = word_answer_given s cell
-picked false false bad s cell = refl
-
--- the word with that cell's code is below those with the schedules
-pub cell_at_below : (n m cell c at : ℕ) → at ≡ cell_at n m cell → ((m ≡ 0 → ⊥) → cell < c) → at < 3 + 2 * n + c
+-- the word with the code of a part's cell is below those with the schedules
+pub cell_at_below :
+    {words : List ℕ} {start end room place at : ℕ} → Part words start end → room ≡ max (end - start) 1 → place < room
+    → at ≡ cell_at (code_count words) (end - start) (start + place) → at < 3 + 2 * code_count words + cell_count words
 unfolding cell_at
-cell_at_below n m cell c at e below =
-    rw e
-    (elim (ℕ_discrete m 0) [
-      | yes none ↦ rw (eq-eqb m 0 none) (omega arith)
-      | no some ↦ rw (ne_eqb m 0 some) (omega (arith, below some))
+cell_at_below {start = start} {end = end} part most within is =
+    rw is
+    (elim (ℕ_discrete (end - start) 0) [
+      | yes none ↦ rw (eq-eqb (end - start) 0 none) (omega arith)
+      | no some ↦ rw (ne_eqb (end - start) 0 some) (omega (arith, part.below, part.rises))
     ])
 
 -- without a block to come to

@@ -1,39 +1,24 @@
--- The answers of a lookup past the tests that it passes, over plain words: from the sizes to the code's block, and from the block to its cell.
+-- The answers of a lookup past the tests that it passes, over plain words: from the sizes to the code's block.
 use Prim.Native.Nat.{ℕ, ◌-◌, ◌≤◌}
 use mathlib.Core.Bool.{true, false, true≢false}
 use mathlib.Core.Logic.{◌⊎◌, inl, inr}
 use mathlib.Core.List.{List}
 use mathlib.Core.Path.{◌≡◌, sym, ◌∙◌}
-use borrow.Author.Tests.{le-ltb, eq-eqb, ne_eqb, not-false}
+use borrow.Author.Tests.{le-ltb, ne_eqb, not-false}
 use lib.Dec.{eqb, ltb}
 use lib.ListN.{length}
 use Rattle.hash.proofs.Indicators.{true_or_false}
-use Rattle.prelude.specs.Answers.{absent, refused, refuse, outside}
-use Rattle.table.specs.Words.{code_count, cell_count, block_start, block_end, block_multiplier, block_of, cell_in}
+use Rattle.prelude.specs.Answers.{absent, refused, outside}
+use Rattle.table.specs.Words.{code_count, block_of}
 use Rattle.table.specs.Sizes.{bad_sizes}
-use Rattle.lookup.specs.Lookup.{in_cell, in_block, lookup_of}
+use Rattle.lookup.specs.Lookup.{in_block, lookup_of}
 use Rattle.table.specs.code.Sized.{has_blocks}
 
 module _ (p limit : ℕ) (words : List ℕ) (code : ℕ) (range : outside 1 (p - 1) code ≡ false) (three : 3 ≤ length words)
     (sizes : bad_sizes p limit words ≡ false) where
-  pub lookup_none : code_count words ≡ 0 → lookup_of p limit words code ≡ absent
-  unfolding lookup_of
-  lookup_none none = rw (range, le-ltb _ _ three, sizes, eq-eqb _ _ none)
-
   pub lookup_block : (code_count words ≡ 0 → ⊥) → lookup_of p limit words code ≡ in_block p words code (block_of p words code)
   unfolding lookup_of
   lookup_block some = rw (range, le-ltb _ _ three, sizes, ne_eqb _ _ some)
-
-module _ (p : ℕ) (words : List ℕ) (code j : ℕ) (rises : block_start words j ≤ block_end words j) (within : block_end words j ≤ cell_count words) where
-  pub block_none : block_start words j ≡ block_end words j → in_block p words code j ≡ absent
-  unfolding in_block
-  block_none none = rw (le-ltb _ _ rises, le-ltb _ _ within, eq-eqb _ _ none)
-
-  pub block_cell :
-      (block_start words j ≡ block_end words j → ⊥)
-      → in_block p words code j ≡ refuse (outside 1 (p - 1) (block_multiplier words j)) 34 0 (in_cell words code (cell_in p words j code))
-  unfolding in_block
-  block_cell some = rw (le-ltb _ _ rises, le-ltb _ _ within, ne_eqb _ _ some)
 
 -- where there is no block to come to, a lookup gives no schedule
 pub no_codes :

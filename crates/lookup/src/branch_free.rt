@@ -1,5 +1,5 @@
 // A branch-free lookup, for callers that take numbers. A branch on whether the code is there would be mispredicted for every second one of mixed
-// codes. So both words of its cell are read, and the answer is selected.
+// codes. So both words of its cell are read, and the answer is selected: as a number in a word, since a `Result` is told by a branch.
 ghost use Rattle.std.specs.Prelude.{◌-◌, ◌<◌, ◌≤◌, cond, ◌≡◌};
 ghost use Rattle.lookup.specs.Lookup.{in_block, lookup_of};
 ghost use Rattle.prelude.specs.Numbers.{FoundShown};
@@ -9,7 +9,7 @@ ghost use Rattle.prelude.specs.Limits.{most_pairs};
 
 use prelude::answers::NumberedFound;
 use prelude::limits::MOST_PAIRS;
-use prelude::numbers::{larger, outside, wide};
+use prelude::numbers::{outside, wide};
 use table::words::{bad_sizes, block_end, block_multiplier, block_of, block_start, has_blocks};
 
 // One of two words.
@@ -24,6 +24,7 @@ fn select(test: bool, yes: u64, no: u64) -> u64
 
 // An answer from one word, a schedule in its upper half or a number in its lower, and from the cell that was read, which is the answer's where there is a
 // schedule.
+#[tactic(auto, unfolding(crate::specs::code::OneWord::word_answer))]
 fn numbered(word: u64, read: u32) -> NumberedFound
     ensures { FoundShown (word_answer word read) result }
 {
@@ -40,13 +41,14 @@ fn numbered(word: u64, read: u32) -> NumberedFound
 }
 
 // The answer from a block of m cells, where the code's own cell has these words.
+#[tactic(auto, unfolding(crate::specs::code::OneWord::cell_answer, crate::specs::code::OneWord::word_answer))]
 fn cell_answer(m: u32, code: u32, stored: u32, schedule: u32, cell: u32) -> NumberedFound
     ensures { FoundShown (cell_answer m code stored schedule cell) result }
 {
     let found = select(
         outside(1, 999, schedule),
         34,
-        (schedule as u64) * 4294967296,
+        u64::from(schedule) * 4294967296,
     );
     numbered(
         select(m == 0, 1000, select(stored == code, found, 1000)),
@@ -55,6 +57,7 @@ fn cell_answer(m: u32, code: u32, stored: u32, schedule: u32, cell: u32) -> Numb
 }
 
 // The index of the word with the code of a cell, in a table of n codes; 0 for a block without cells.
+#[tactic(auto, unfolding(crate::specs::code::OneWord::cell_at))]
 fn cell_at(n: u32, m: u32, cell: u32) -> usize
     ensures { result ≡ cell_at n m cell }
 {
@@ -65,18 +68,20 @@ fn cell_at(n: u32, m: u32, cell: u32) -> usize
 }
 
 // The answer from the cells between start and end.
+#[tactic(auto, using(crate::proofs::Probing::cell_at_below), unfolding(crate::specs::code::OneWord::probe_answer))]
 fn probe(p: u32, words: &[u32], code: u32, start: u32, end: u32, q: u32) -> NumberedFound
     requires { (q < p) × ((code < p) × Part words.now start end) }
     ensures { FoundShown (probe_answer p words.now code start (end - start) q) result }
 {
     let m = end - start;
-    let place = hash::hash(p, q, larger(1, m), code);
+    let place = hash::hash(p, q, m.max(1), code);
     let cell = start + place;
     let at = cell_at(words[0], m, cell);
     cell_answer(m, code, words[at], words[at + wide(words[1])], cell)
 }
 
 // Whether a lookup ends before it reads a cell: the start is above the end, the end above c, or q is out of range.
+#[tactic(auto, unfolding(crate::specs::code::OneWord::unreadable))]
 fn unreadable(p: u32, c: u32, start: u32, end: u32, q: u32) -> bool
     requires { 1 ≤ p }
     ensures { result ≡ unreadable p c start end q }
@@ -107,6 +112,7 @@ fn block_answer(p: u32, words: &[u32], code: u32, j: usize) -> NumberedFound
 
 // The answer for any words, with the prime and the limit on the codes of a table. On a sound one a single run of tests leads to the block; which of
 // them failed is told afterwards.
+#[tactic(auto, unfolding(crate::specs::Lookup::lookup_of, crate::specs::code::OneWord::word_answer))]
 fn lookup_numbered_for(p: u32, limit: u32, words: &[u32], code: u32) -> NumberedFound
     requires { 1 ≤ p }
     ensures { FoundShown (lookup_of p limit words.now code) result }

@@ -5,9 +5,10 @@
 ghost use Rattle.std.specs.Prelude.{◌<◌, ◌≤◌, ◌≡◌};
 ghost use Rattle.lookup.specs.Lookup.{in_cell, in_block, lookup_of};
 ghost use Rattle.table.specs.code.Sized.{Block, Cell};
-ghost use Rattle.lookup.specs.Found.{found_of};
+ghost use Rattle.lookup.specs.Found.{found_of, lookup_error_of};
 ghost use Rattle.prelude.specs.Limits.{most_pairs};
 
+use prelude::answers::{Numbered, Refusal};
 use prelude::limits::MOST_PAIRS;
 use prelude::numbers::outside;
 use table::words::{
@@ -17,11 +18,16 @@ use table::words::{
 
 pub mod branch_free;
 
-#[derive(Clone, Copy)]
-pub enum Found {
-    // a schedule, and the cell that the code is in
-    Schedule(u32, u32),
-    Absent,
+// A code that the table has: its schedule, and the cell that it is in.
+#[derive(Clone, Copy, Debug, PartialEq, Eq)]
+pub struct Found {
+    pub schedule: u32,
+    pub cell: u32,
+}
+
+// What refuses a lookup. A code that the table does not have is no error.
+#[derive(Clone, Copy, Debug, PartialEq, Eq)]
+pub enum LookupError {
     // 31
     CodeOutOfRange,
     // 32
@@ -32,65 +38,88 @@ pub enum Found {
     BadBlock,
 }
 
+impl Refusal for LookupError {
+    ghost refusal_of = { lookup_error_of };
+
+    fn refusal(self) -> Numbered {
+        let number = match self {
+            LookupError::CodeOutOfRange => 31,
+            LookupError::TooFewWords => 32,
+            LookupError::BadSizes => 33,
+            LookupError::BadBlock => 34,
+        };
+        Numbered { number, value: 0 }
+    }
+}
+
 // The answer from cell i, the one that the code can be in.
-fn in_cell(words: &[u32], code: u32, i: usize) -> Found
+#[tactic(auto, unfolding(crate::specs::Lookup::in_cell))]
+fn in_cell(words: &[u32], code: u32, i: usize) -> Result<Option<Found>, LookupError>
     requires { Cell words.now i }
     ensures { found_of result ≡ in_cell words.now code i }
 {
     if cell_code(words, i) != code {
-        return Found::Absent;
+        return Ok(None);
     }
     let schedule = cell_schedule(words, i);
     if outside(1, 999, schedule) {
-        return Found::BadBlock;
+        return Err(LookupError::BadBlock);
     }
-    Found::Schedule(schedule, i as u32)
+    let cell = i as u32;
+    Ok(Some(Found { schedule, cell }))
 }
 
 // The answer from block j, the code's own. The q of a block without cells is not looked at.
-pub fn in_block(p: u32, words: &[u32], code: u32, j: usize) -> Found
+#[tactic(auto, unfolding(crate::specs::Lookup::in_block))]
+pub fn in_block(p: u32, words: &[u32], code: u32, j: usize) -> Result<Option<Found>, LookupError>
     requires { (code < p) × Block words.now j }
     ensures { found_of result ≡ in_block p words.now code j }
 {
     let start = block_start(words, j);
     let end = block_end(words, j);
     if end < start {
-        return Found::BadBlock;
+        return Err(LookupError::BadBlock);
     }
     if words[1] < end {
-        return Found::BadBlock;
+        return Err(LookupError::BadBlock);
     }
     if start == end {
-        return Found::Absent;
+        return Ok(None);
     }
     if outside(1, p - 1, block_multiplier(words, j)) {
-        return Found::BadBlock;
+        return Err(LookupError::BadBlock);
     }
     in_cell(words, code, cell_in(p, words, j, code))
 }
 
 // The answer for any words, with the prime and the limit on the codes of a table.
-pub fn lookup_for(p: u32, limit: u32, words: &[u32], code: u32) -> Found
+#[tactic(auto, unfolding(crate::specs::Lookup::lookup_of))]
+pub fn lookup_for(
+    p: u32,
+    limit: u32,
+    words: &[u32],
+    code: u32,
+) -> Result<Option<Found>, LookupError>
     requires { 1 ≤ p }
     ensures { found_of result ≡ lookup_of p limit words.now code }
 {
     if outside(1, p - 1, code) {
-        return Found::CodeOutOfRange;
+        return Err(LookupError::CodeOutOfRange);
     }
     if words.len() < 3 {
-        return Found::TooFewWords;
+        return Err(LookupError::TooFewWords);
     }
     if bad_sizes(p, limit, words) {
-        return Found::BadSizes;
+        return Err(LookupError::BadSizes);
     }
     if words[0] == 0 {
-        return Found::Absent;
+        return Ok(None);
     }
     in_block(p, words, code, block_of(p, words, code))
 }
 
 // The schedule and the cell of a code in any words: found, absent, or refused by 31 to 34. It writes nothing and relies on no earlier check.
-pub fn lookup(words: &[u32], code: u32) -> Found
+pub fn lookup(words: &[u32], code: u32) -> Result<Option<Found>, LookupError>
     ensures { found_of result ≡ lookup_of 65537 most_pairs words.now code }
 {
     lookup_for(65537, MOST_PAIRS, words, code)

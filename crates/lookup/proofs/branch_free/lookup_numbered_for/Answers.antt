@@ -2,20 +2,12 @@
 use Prim.Native.Nat.{◌<◌}
 use mathlib.Core.Path.{◌∙◌, sym}
 use native.Mathlib.Omega.{arith}
-use borrow.Author.Tests.{lt-ltb}
-use Rattle.lookup.specs.Lookup.{lookup_of}
 use Rattle.table.specs.code.Sized.{WithBlocks}
-use Rattle.lookup.specs.code.OneWord.{word_answer}
 use Rattle.table.proofs.Sizing.{sized, has_blocks_lem}
 use Rattle.prelude.proofs.Laws.{below_prime}
 use Rattle.lookup.proofs.Probing.{shown_as, sizes_told}
 use Rattle.lookup.proofs.Steps.{lookup_block}
 use Rattle.lookup.proofs.branch_free.lookup_numbered_for.Goals as goal
-
-pub returns-then-outside : goal.returns-then-outside
-unfolding lookup_of word_answer
-returns-then-outside c =
-    shown_as (rw (sym c.outside.ensures ∙ c.if-outside.true)) c.numbered.ensures
 
 pub block_of-requires : goal.block_of-requires
 block_of-requires c =
@@ -36,11 +28,6 @@ returns-then-has_blocks c =
     (rw c.block_of.ensures.value
     (sym (lookup_block _ _ _ _ (sym c.outside.ensures ∙ c.if-outside.false) blocks.three blocks.sizes (λ none. omega (arith, blocks.some)))))
     c.block_answer.ensures
-
-pub returns-then-words-lt3 : goal.returns-then-words-lt3
-unfolding lookup_of word_answer
-returns-then-words-lt3 c =
-    shown_as (rw (sym c.outside.ensures ∙ c.if-outside.false, lt-ltb _ _ c.if-words-lt3.true)) c.numbered-then-words-lt3.ensures
 
 pub returns : goal.returns
 returns c =
