@@ -31,7 +31,7 @@ pub fn glass_lookup(words: &[u32], code: u32) -> NumberedFound
 pub fn glass_panel(words: &[u32], holds: &[u32], codes: &[u32]) -> NumberedFound
     ensures { FoundShown (panel_of 65537 most_pairs words.now holds.now codes.now) result }
 {
-    panel::numbered::numbered(panel::panel(words, holds, codes))
+    panel::numbered::in_numbers(panel::panel(words, holds, codes))
 }
 
 pub fn glass_pairs(words: &[u32], codes: &mut [u32], schedules: &mut [u32]) -> Numbered

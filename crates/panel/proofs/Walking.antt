@@ -1,7 +1,7 @@
 -- The walk of a panel, over plain lists: after i codes that do not end it, it keeps what decides among them; it goes on at a schedule in use, ends at any
 -- other answer, and has its answer after the last code.
-use Prim.Native.Nat.{ℕ, ◌+◌, ◌<◌, ◌≤◌}
-use mathlib.Core.Bool.{true, false, cond, ◌&&◌, true≢false}
+use Prim.Native.Nat.{ℕ, ◌+◌, ◌-◌, ◌<◌, ◌≤◌}
+use mathlib.Core.Bool.{Bool, true, false, cond, ◌&&◌, true≢false}
 use mathlib.Core.List.{List, [], ◌∷◌}
 use mathlib.Core.Logic.{◌⊎◌, inl, inr, ⊎_elim}
 use mathlib.Core.Path.{◌≡◌, refl, sym, ap, subst, ◌∙◌}
@@ -14,36 +14,37 @@ use Rattle.hash.proofs.Indicators.{true_or_false}
 use Rattle.prelude.specs.Answers.{Answer, given, absent, unknown, refused, first_of}
 use Rattle.prelude.specs.Numbers.{found_value_of}
 use Rattle.lookup.specs.Lookup.{lookup_of}
-use Rattle.lookup.specs.Found.{found_of}
-use Rattle.lookup.specs.declared.Found.{Found}
-use Rattle.lookup.specs.declared.Found.TheVariants.{Schedule, Absent, CodeOutOfRange, TooFewWords, BadSizes, BadBlock}
+use Rattle.lookup.specs.declared.LookupError.TheVariants.{CodeOutOfRange, TooFewWords, BadSizes, BadBlock}
 use Rattle.table.specs.code.Sized.{has_blocks}
 use Rattle.prelude.proofs.First.{Below, below_none, below_next, first_is, first_found, first_none}
 use Rattle.prelude.proofs.Laws.{or_false}
 use Rattle.lookup.proofs.Steps.{no_blocks}
 use Rattle.lookup.proofs.Tells.{lookup_stands, schedule_range}
 use Rattle.panel.specs.Panel.{hold_of, ends, ended_of, deciding, walk_of}
-use Rattle.panel.specs.code.Decided.{replaces}
+use Rattle.panel.specs.Fired.{panel_error_of}
+use Rattle.panel.specs.code.Decided.{answer_at, replaces}
+use Rattle.panel.specs.declared.PanelError.{PanelError}
+use Rattle.panel.specs.declared.PanelError.TheVariants.{NoCodes, TooManyCodes, BadHolds, Unknown, Refused, NotInUse}
 use Rattle.panel.specs.declared.Decided.{Decided}
 use Rattle.panel.proofs.Deciding.{Decides, deciding_is, decides_only, and_true}
 
 -- ---- what takes the place of what
 
 replaces_tells :
-    (d next : Decided) → replaces d next ≡ true → (d.hold < next.hold) ⊎ ((d.hold ≡ next.hold) × (next.schedule < d.schedule))
+    (d next : Decided) → replaces d next ≡ true → (d.hold < next.hold) ⊎ ((d.hold ≡ next.hold) × (next.found.schedule < d.found.schedule))
 replaces_tells d next e =
     elim (dec_lt d.hold next.hold) [
       | yes l ↦ inl l
       | no ge ↦
-          let (same, less) = and_true (eqb d.hold next.hold) (ltb next.schedule d.schedule) (rw (le-ltb d.hold next.hold (omega arith)) at e) in
-          inr (eqb-true d.hold next.hold same, ltb-true next.schedule d.schedule less)
+          let (same, less) = and_true (eqb d.hold next.hold) (ltb next.found.schedule d.found.schedule) (rw (le-ltb d.hold next.hold (omega arith)) at e) in
+          inr (eqb-true d.hold next.hold same, ltb-true next.found.schedule d.found.schedule less)
     ]
 
 keeps_tells :
-    (d next : Decided) → replaces d next ≡ false → (next.hold ≤ d.hold) × (d.hold ≡ next.hold → d.schedule ≤ next.schedule)
+    (d next : Decided) → replaces d next ≡ false → (next.hold ≤ d.hold) × (d.hold ≡ next.hold → d.found.schedule ≤ next.found.schedule)
 keeps_tells d next e =
-    let (no_longer, no_less) = or_false (ltb d.hold next.hold) (eqb d.hold next.hold && ltb next.schedule d.schedule) e in
-    (ltb-false d.hold next.hold no_longer, λ same. ltb-false next.schedule d.schedule (rw (eq-eqb d.hold next.hold same) at no_less))
+    let (no_longer, no_less) = or_false (ltb d.hold next.hold) (eqb d.hold next.hold && ltb next.found.schedule d.found.schedule) e in
+    (ltb-false d.hold next.hold no_longer, λ same. ltb-false next.found.schedule d.found.schedule (rw (eq-eqb d.hold next.hold same) at no_less))
 
 -- ---- one more schedule
 
@@ -95,17 +96,17 @@ module _ (p limit : ℕ) (words codes : List ℕ) where
     pub record Kept (i : ℕ) (d : Decided) : Type 0 where
       pub none_ends : NoneEnds i
       pub nothing_yet : i ≡ 0 → d.hold ≡ 0
-      pub decider : 0 < i → (x : ℕ) × Decides holds i schedule x × (answer x ≡ given (d.schedule ∷ d.cell ∷ [])) × (d.hold ≡ hold_of holds d.schedule)
+      pub decider : 0 < i → (x : ℕ) × Decides holds i schedule x × (answer x ≡ given (d.found.schedule ∷ d.found.cell ∷ [])) × (d.hold ≡ hold_of holds d.found.schedule)
 
-    pub walk_starts : Kept 0 (record { hold = 0; schedule = 0; cell = 0 })
+    pub walk_starts : Kept 0 (record { hold = 0; found = record { schedule = 0; cell = 0 } })
     walk_starts = record { none_ends = below_none _; nothing_yet = λ _. refl; decider = λ l. absurd (omega arith) }
 
-    module _ (i : ℕ) (d next : Decided) (k : Kept i d) (found : answer i ≡ given (next.schedule ∷ next.cell ∷ []))
-        (its_hold : next.hold ≡ hold_of holds next.schedule) (in_use : next.hold ≡ 0 → ⊥) where
+    module _ (i : ℕ) (d next : Decided) (k : Kept i d) (found : answer i ≡ given (next.found.schedule ∷ next.found.cell ∷ []))
+        (its_hold : next.hold ≡ hold_of holds next.found.schedule) (in_use : next.hold ≡ 0 → ⊥) where
       none_ends : NoneEnds (i + 1)
       none_ends = below_next _ i k.none_ends (rw found (ne_eqb _ _ (λ e. in_use (its_hold ∙ e))))
 
-      scheduled : schedule i ≡ next.schedule
+      scheduled : schedule i ≡ next.found.schedule
       scheduled = ap found_value_of found
 
       held : hold_of holds (schedule i) ≡ next.hold
@@ -116,7 +117,7 @@ module _ (p limit : ℕ) (words codes : List ℕ) where
           one_decides holds schedule i
           (λ y l.
           let (x, decides, there, long) = k.decider (omega arith) in
-          let named : schedule x ≡ d.schedule = ap found_value_of there in
+          let named : schedule x ≡ d.found.schedule = ap found_value_of there in
           let held-before : hold_of holds (schedule x) ≡ d.hold = ap (hold_of holds) named ∙ sym long in
           let no_longer = decides.longest_hold y l in
           elim (dec_lt (hold_of holds (schedule y)) (hold_of holds (schedule i))) [
@@ -130,12 +131,12 @@ module _ (p limit : ℕ) (words codes : List ℕ) where
                 (replaces_tells d next e)
           ])
 
-      kept : replaces d next ≡ false → (x : ℕ) × Decides holds (i + 1) schedule x × (answer x ≡ given (d.schedule ∷ d.cell ∷ [])) × (d.hold ≡ hold_of holds d.schedule)
+      kept : replaces d next ≡ false → (x : ℕ) × Decides holds (i + 1) schedule x × (answer x ≡ given (d.found.schedule ∷ d.found.cell ∷ [])) × (d.hold ≡ hold_of holds d.found.schedule)
       kept e =
           let (no_longer, no_less) = keeps_tells d next e in
           let before : 0 < i = elim (dec_lt 0 i) [ yes l ↦ l | no none ↦ absurd (in_use (omega (arith, k.nothing_yet (omega arith)))) ] in
           let (x, decides, there, long) = k.decider before in
-          let named : schedule x ≡ d.schedule = ap found_value_of there in
+          let named : schedule x ≡ d.found.schedule = ap found_value_of there in
           let held-before : hold_of holds (schedule x) ≡ d.hold = ap (hold_of holds) named ∙ sym long in (
             x,
             still_decides holds schedule i x decides (omega (arith, held)) (λ same. omega (arith, scheduled, no_less (omega (arith, held)))),
@@ -194,7 +195,7 @@ module _ (p limit : ℕ) (words codes : List ℕ) where
         ∙ ap answer (decides_only holds (length codes) schedule (deciding_is holds (length codes) schedule (omega (arith, decides.in_panel)) (to_999 none)) decides)
 
     -- after the last code
-    pub walk_over : (i : ℕ) (d : Decided) → 0 < length codes → i ≡ length codes → Kept i d → walk_of p limit words holds codes ≡ given (d.schedule ∷ d.cell ∷ [])
+    pub walk_over : (i : ℕ) (d : Decided) → 0 < length codes → i ≡ length codes → Kept i d → walk_of p limit words holds codes ≡ given (d.found.schedule ∷ d.found.cell ∷ [])
     walk_over i d some all k =
         let k' = subst (λ (n : ℕ). Kept n d) all k in
         let (x, decides, there, long) = k'.decider some in
@@ -248,11 +249,52 @@ module _ (p limit : ℕ) (words codes : List ℕ) where
               inr (_, record { none_ends = none; decides = decides; walked = walk_decided _ none decides })
         ]
 
--- a lookup that gives no schedule ends it
-pub unfound_ends : (holds : List ℕ) (f : Found) → ((s at : ℕ) → f ≡ Schedule s at → ⊥) → ends holds (found_of f) ≡ true
-unfound_ends holds (Schedule s at) k = absurd (k s at refl)
-unfound_ends holds Absent k = refl
-unfound_ends holds CodeOutOfRange k = refl
-unfound_ends holds TooFewWords k = refl
-unfound_ends holds BadSizes k = refl
-unfound_ends holds BadBlock k = refl
+-- ---- what the answer at a code tells
+
+is_given : Answer → Bool
+is_given (given values) = true
+is_given absent = false
+is_given (unknown i) = false
+is_given (refused number value) = false
+
+error_not_given : (e : PanelError) → is_given (panel_error_of e) ≡ false
+unfolding is_given
+error_not_given NoCodes = refl
+error_not_given TooManyCodes = refl
+error_not_given BadHolds = refl
+error_not_given (Unknown i) = refl
+error_not_given (Refused i CodeOutOfRange) = refl
+error_not_given (Refused i TooFewWords) = refl
+error_not_given (Refused i BadSizes) = refl
+error_not_given (Refused i BadBlock) = refl
+error_not_given (NotInUse i) = refl
+
+-- an error ends it
+pub ended_at : (holds : List ℕ) (a : Answer) (i : ℕ) (e : PanelError) → panel_error_of e ≡ answer_at a i → (ends holds a ≡ true) × (panel_error_of e ≡ ended_of a i)
+unfolding is_given
+ended_at holds (given values) i e is = absurd (true≢false (sym (ap is_given is) ∙ error_not_given e))
+ended_at holds absent i e is = (refl, is)
+ended_at holds (unknown j) i e is = (refl, is)
+ended_at holds (refused number value) i e is = (refl, is)
+
+-- and what is found is the lookup's
+pub given_at : (a : Answer) (i : ℕ) (values : List ℕ) → given values ≡ answer_at a i → a ≡ given values
+unfolding is_given
+given_at (given values') i values is = sym is
+given_at absent i values is = absurd (true≢false (ap is_given is))
+given_at (unknown j) i values is = absurd (true≢false (ap is_given is))
+given_at (refused number value) i values is = absurd (true≢false (ap is_given is))
+
+pub there :
+    (p limit : ℕ) (words : List ℕ) (code i : ℕ) {a : Answer} {values : List ℕ} → a ≡ lookup_of p limit words code → given values ≡ answer_at a i
+    → lookup_of p limit words code ≡ given values
+there p limit words code i looked is = sym looked ∙ given_at _ i _ is
+
+pub hold_there : (holds : List ℕ) {index s : ℕ} → index ≡ s → get_or holds (index - 1) 0 ≡ hold_of holds s
+hold_there holds e = ap (λ (n : ℕ). get_or holds (n - 1) 0) e
+
+-- without blocks the first code ends it
+pub unread_at : (p limit : ℕ) (words : List ℕ) (code i : ℕ) → has_blocks p limit words ≡ false
+    → answer_at (lookup_of p limit words code) i ≡ ended_of (lookup_of p limit words code) i
+unread_at p limit words code i e =
+    ⊎_elim (λ none. rw none) (λ (number, bad). rw bad) (no_blocks p limit words code e)

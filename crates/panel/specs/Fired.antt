@@ -1,17 +1,20 @@
 -- The paper's number for each case of a panel's answer (document 01, "Panel"; document 02, Change 5).
-use Rattle.std.specs.Prelude.{[], ◌∷◌}
+use Rattle.std.specs.Prelude.{[], ◌∷◌, Result, Ok, Err}
 use Rattle.prelude.specs.Answers.{Answer, given, unknown, refused}
-use Rattle.panel.specs.declared.Fired.{Fired}
-use Rattle.panel.specs.declared.Fired.TheVariants.{Schedule, NoCodes, TooManyCodes, BadHolds, Unknown, CodeOutOfRange, TooFewWords, BadSizes, BadBlock, NotInUse}
+use Rattle.lookup.specs.Found.{lookup_error_of}
+use Rattle.lookup.specs.declared.Found.{Found}
+use Rattle.panel.specs.Panel.{ended_of}
+use Rattle.panel.specs.declared.PanelError.{PanelError}
+use Rattle.panel.specs.declared.PanelError.TheVariants.{NoCodes, TooManyCodes, BadHolds, Unknown, Refused, NotInUse}
 
-abbrev pub fired_of : Fired → Answer
-fired_of (Schedule s i) = given (s ∷ i ∷ [])
-fired_of NoCodes = refused 35 0
-fired_of TooManyCodes = refused 36 0
-fired_of BadHolds = refused 74 0
-fired_of (Unknown i) = unknown i
-fired_of (CodeOutOfRange i) = refused 31 i
-fired_of (TooFewWords i) = refused 32 i
-fired_of (BadSizes i) = refused 33 i
-fired_of (BadBlock i) = refused 34 i
-fired_of (NotInUse i) = refused 75 i
+abbrev pub panel_error_of : PanelError → Answer
+panel_error_of NoCodes = refused 35 0
+panel_error_of TooManyCodes = refused 36 0
+panel_error_of BadHolds = refused 74 0
+panel_error_of (Unknown i) = unknown i
+panel_error_of (Refused i e) = ended_of (lookup_error_of e) i
+panel_error_of (NotInUse i) = refused 75 i
+
+abbrev pub fired_of : Result Found PanelError → Answer
+fired_of (Ok found) = given (found.schedule ∷ found.cell ∷ [])
+fired_of (Err e) = panel_error_of e

@@ -4,24 +4,23 @@
 ghost use Rattle.std.specs.Prelude.{◌≤◌, cond, ◌≡◌, length};
 ghost use Rattle.lookup.specs.Lookup.{lookup_of};
 ghost use Rattle.table.specs.code.Sized.{WithBlocks, HashOf};
-ghost use Rattle.panel.specs.Panel.{bad_holds, ended_of, walk_of, panel_of};
+ghost use Rattle.panel.specs.Panel.{bad_holds, walk_of, panel_of};
 ghost use Rattle.lookup.specs.Found.{found_of};
 ghost use Rattle.panel.specs.Fired.{fired_of};
-ghost use Rattle.panel.specs.code.Decided.{replaces};
+ghost use Rattle.panel.specs.code.Decided.{answer_at, replaces};
 ghost use Rattle.prelude.specs.Limits.{most_pairs};
 
 pub mod numbered;
 
 use hash::Hasher;
-use lookup::{Found, in_block, lookup_for};
+use lookup::{Found, LookupError, in_block, lookup_for};
 use prelude::limits::MOST_PAIRS;
 use prelude::numbers::{outside, some_outside, wide};
 use table::words::{has_blocks, table_hash};
 
-#[derive(Clone, Copy)]
-pub enum Fired {
-    // the schedule with the longest hold, the least of several, and the cell of the first code that has it
-    Schedule(u32, u32),
+// What refuses a panel, or ends it at the code with an index.
+#[derive(Clone, Copy, Debug, PartialEq, Eq)]
+pub enum PanelError {
     // 35
     NoCodes,
     // 36
@@ -31,15 +30,13 @@ pub enum Fired {
     // the first code that ends it, by its index: absent
     Unknown(u32),
     // 31 to 34: refused
-    CodeOutOfRange(u32),
-    TooFewWords(u32),
-    BadSizes(u32),
-    BadBlock(u32),
+    Refused(u32, LookupError),
     // 75: found with a schedule that is not in use
     NotInUse(u32),
 }
 
 // 74: the holds are not those of 999 schedules, or one is above 10,080 minutes.
+#[tactic(auto, unfolding(crate::specs::Panel::bad_holds))]
 fn bad_holds(holds: &[u32]) -> bool
     ensures { result ≡ bad_holds holds.now }
 {
@@ -49,27 +46,25 @@ fn bad_holds(holds: &[u32]) -> bool
     some_outside(0, 10080, holds)
 }
 
-// How a lookup's answer ends the panel at index i: where it gives a schedule, that is not in use.
-fn ended(f: Found, i: u32) -> Fired
-    ensures { fired_of result ≡ ended_of (found_of f) i }
+// A lookup's answer as the panel's, for the code at index i: only one that finds a schedule does not end it.
+fn found_at(answer: Result<Option<Found>, LookupError>, i: u32) -> Result<Found, PanelError>
+    ensures { fired_of result ≡ answer_at (found_of answer) i }
 {
-    match f {
-        Found::Schedule(_schedule, _cell) => Fired::NotInUse(i),
-        Found::Absent => Fired::Unknown(i),
-        Found::CodeOutOfRange => Fired::CodeOutOfRange(i),
-        Found::TooFewWords => Fired::TooFewWords(i),
-        Found::BadSizes => Fired::BadSizes(i),
-        Found::BadBlock => Fired::BadBlock(i),
+    match answer {
+        Ok(Some(found)) => Ok(found),
+        Ok(None) => Err(PanelError::Unknown(i)),
+        Err(e) => Err(PanelError::Refused(i, e)),
     }
 }
 
 // The answer for one code of a panel: the sizes are tested before, and the hash into the blocks is the same for all codes.
-fn lookup_in(h: Hasher, limit: u32, words: &[u32], code: u32) -> Found
+#[tactic(auto, unfolding(lookup::specs::Lookup::lookup_of))]
+fn lookup_in(h: Hasher, limit: u32, words: &[u32], code: u32) -> Result<Option<Found>, LookupError>
     requires { WithBlocks h.prime limit words.now × HashOf words.now h }
     ensures { found_of result ≡ lookup_of h.prime limit words.now code }
 {
     if outside(1, h.prime - 1, code) {
-        return Found::CodeOutOfRange;
+        return Err(LookupError::CodeOutOfRange);
     }
     let j = wide(h.place_of(code));
     in_block(h.prime, words, code, j)
@@ -79,15 +74,14 @@ fn lookup_in(h: Hasher, limit: u32, words: &[u32], code: u32) -> Found
 #[derive(Clone, Copy)]
 struct Decided {
     hold: u32,
-    schedule: u32,
-    cell: u32,
+    found: Found,
 }
 
 // One more schedule takes the place of the one that decides so far: its hold is longer, or as long and its number smaller.
 fn replaces(d: Decided, next: Decided) -> bool
     ensures { result ≡ replaces d next }
 {
-    (d.hold < next.hold) | ((d.hold == next.hold) & (next.schedule < d.schedule))
+    (d.hold < next.hold) | ((d.hold == next.hold) & (next.found.schedule < d.found.schedule))
 }
 
 // What decides a panel, with one more schedule: the earlier where both have one number.
@@ -101,62 +95,67 @@ fn decide(d: Decided, next: Decided) -> Decided
 }
 
 // The codes looked up in their order: the first one that is absent, refused or not in use ends it, otherwise the longest hold decides.
-fn walk(p: u32, limit: u32, words: &[u32], holds: &[u32], codes: &[u32]) -> Fired
-    requires { (1 ≤ p) × (WithBlocks p limit words.now × ((length holds.now ≡ 999) × ((1 ≤ length codes.now) × (length codes.now ≤ 64)))) }
-    ensures { fired_of result ≡ walk_of p limit words.now holds.now codes.now }
+fn walk(
+    h: Hasher,
+    limit: u32,
+    words: &[u32],
+    holds: &[u32],
+    codes: &[u32],
+) -> Result<Found, PanelError>
+    requires hashed { WithBlocks h.prime limit words.now × HashOf words.now h }
+    requires holds_len { length holds.now ≡ 999 }
+    requires codes_len { (1 ≤ length codes.now) × (length codes.now ≤ 64) }
+    ensures { fired_of result ≡ walk_of h.prime limit words.now holds.now codes.now }
 {
-    let h = table_hash(p, words);
+    // a hold of 0 is shorter than any in use: the first schedule takes its place
     let mut decided = Decided {
         hold: 0,
-        schedule: 0,
-        cell: 0,
+        found: Found {
+            schedule: 0,
+            cell: 0,
+        },
     };
-    let mut i: usize = 0;
-    while i < codes.len() {
-        let f = lookup_in(h, limit, words, codes[i]);
-        let Found::Schedule(schedule, cell) = f else {
-            return ended(f, i as u32);
-        };
-        let hold = holds[wide(schedule) - 1];
+    for (i, &code) in codes.iter().enumerate() {
+        let found = found_at(lookup_in(h, limit, words, code), i as u32)?;
+        let hold = holds[wide(found.schedule) - 1];
         if hold == 0 {
-            return ended(f, i as u32);
+            return Err(PanelError::NotInUse(i as u32));
         }
-        decided = decide(
-            decided,
-            Decided {
-                hold: hold,
-                schedule: schedule,
-                cell: cell,
-            },
-        );
-        i += 1;
+        decided = decide(decided, Decided { hold, found });
     }
-    Fired::Schedule(decided.schedule, decided.cell)
+    Ok(decided.found)
 }
 
 // The answer for any words, holds and codes, with the prime and the limit on the codes of a table.
-fn panel_for(p: u32, limit: u32, words: &[u32], holds: &[u32], codes: &[u32]) -> Fired
+#[tactic(auto, unfolding(crate::specs::Panel::panel_of))]
+fn panel_for(
+    p: u32,
+    limit: u32,
+    words: &[u32],
+    holds: &[u32],
+    codes: &[u32],
+) -> Result<Found, PanelError>
     requires { 1 ≤ p }
     ensures { fired_of result ≡ panel_of p limit words.now holds.now codes.now }
 {
-    if codes.len() == 0 {
-        return Fired::NoCodes;
+    if codes.is_empty() {
+        return Err(PanelError::NoCodes);
     }
     if 64 < codes.len() {
-        return Fired::TooManyCodes;
+        return Err(PanelError::TooManyCodes);
     }
     if bad_holds(holds) {
-        return Fired::BadHolds;
+        return Err(PanelError::BadHolds);
     }
     if !has_blocks(p, limit, words) {
-        return ended(lookup_for(p, limit, words, codes[0]), 0);
+        return found_at(lookup_for(p, limit, words, codes[0]), 0);
     }
-    walk(p, limit, words, holds, codes)
+    walk(table_hash(p, words), limit, words, holds, codes)
 }
 
 // The schedule of a panel in any words, by any holds: the one with the longest hold and its cell, unknown, or refused. It writes nothing and relies on
 // no earlier check.
-pub fn panel(words: &[u32], holds: &[u32], codes: &[u32]) -> Fired
+pub fn panel(words: &[u32], holds: &[u32], codes: &[u32]) -> Result<Found, PanelError>
     ensures { fired_of result ≡ panel_of 65537 most_pairs words.now holds.now codes.now }
 {
     panel_for(65537, MOST_PAIRS, words, holds, codes)

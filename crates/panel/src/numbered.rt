@@ -1,38 +1,45 @@
 // The number, the value and the cell of each answer of a panel.
 ghost use Rattle.std.specs.Prelude.{◌≡◌};
-ghost use Rattle.panel.specs.Fired.{fired_of};
+ghost use Rattle.panel.specs.Fired.{panel_error_of, fired_of};
 ghost use Rattle.prelude.specs.Numbers.{FoundShown};
 
-use crate::Fired;
-use prelude::answers::NumberedFound;
+use crate::PanelError;
+use lookup::Found;
+use prelude::answers::{Numbered, NumberedFound, Refusal};
 
-fn without_cell(number: u32, value: u32) -> NumberedFound
-    ensures { (result.number ≡ number) × ((result.value ≡ value) × (result.cell ≡ 0)) }
-{
-    NumberedFound {
-        number: number,
-        value: value,
-        cell: 0,
+impl Refusal for PanelError {
+    ghost refusal_of = { panel_error_of };
+
+    fn refusal(self) -> Numbered {
+        let (number, value) = match self {
+            PanelError::NoCodes => (35, 0),
+            PanelError::TooManyCodes => (36, 0),
+            PanelError::BadHolds => (74, 0),
+            PanelError::Unknown(i) => (1000, i),
+            PanelError::Refused(i, e) => (e.refusal().number, i),
+            PanelError::NotInUse(i) => (75, i),
+        };
+        Numbered { number, value }
     }
 }
 
-pub fn numbered(f: Fired) -> NumberedFound
-    ensures { FoundShown (fired_of f) result }
+// A schedule with its cell. An error has none.
+pub fn in_numbers(r: Result<Found, PanelError>) -> NumberedFound
+    ensures { FoundShown (fired_of r) result }
 {
-    match f {
-        Fired::Schedule(schedule, cell) => NumberedFound {
+    match r {
+        Ok(found) => NumberedFound {
             number: 0,
-            value: schedule,
-            cell: cell,
+            value: found.schedule,
+            cell: found.cell,
         },
-        Fired::Unknown(i) => without_cell(1000, i),
-        Fired::CodeOutOfRange(i) => without_cell(31, i),
-        Fired::TooFewWords(i) => without_cell(32, i),
-        Fired::BadSizes(i) => without_cell(33, i),
-        Fired::BadBlock(i) => without_cell(34, i),
-        Fired::NoCodes => without_cell(35, 0),
-        Fired::TooManyCodes => without_cell(36, 0),
-        Fired::BadHolds => without_cell(74, 0),
-        Fired::NotInUse(i) => without_cell(75, i),
+        Err(e) => {
+            let refusal = e.refusal();
+            NumberedFound {
+                number: refusal.number,
+                value: refusal.value,
+                cell: 0,
+            }
+        }
     }
 }
