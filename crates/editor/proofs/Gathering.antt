@@ -10,11 +10,12 @@ use mathlib.Core.Path.{◌≡◌, refl, sym, ap, ◌∙◌}
 use borrow.Author.Tests.{eq-eqb, ne_eqb}
 use lib.ListN.{length, get_or, set, take, drop, length-set, drop_of_length-le}
 use lib.Seq.{take_all, take-suc-set, take-set-le, drop-cons}
-use Rattle.hash.proofs.Indicators.{indicator}
+use mir.Val.{bool_byte}
+use Rattle.audit.proofs.Counting.{byte_is}
 use Rattle.prelude.specs.Pairs.{Pair, paired, pairs_where}
 use Rattle.reader.specs.Pairs.{stored}
 use Rattle.editor.specs.Edit.{without}
-use Rattle.editor.specs.code.Changes.{is_other, other_count, others, Gatherable, Gathered, FirstOther}
+use Rattle.editor.specs.code.Changes.{is_other, other_count, others, Gatherable, Gathered}
 
 -- ---- one list, of a number g of each pair: k of them stand in it, and these pairs are left
 
@@ -53,15 +54,11 @@ one_at_most : (b : Bool) → cond b 1 0 ≤ 1
 one_at_most true = omega arith
 one_at_most false = omega arith
 
-none_counted : (b : Bool) → indicator b ≡ 0 → b ≡ false
-none_counted true e = absurd (omega arith)
-none_counted false e = refl
-
-one_counted : (b : Bool) → (indicator b ≡ 0 → ⊥) → b ≡ true
-one_counted true ne = refl
-one_counted false ne = absurd (ne refl)
-
 module _ (code : ℕ) where
+  -- whether a cell counts, as a number
+  pub counts : (a : ℕ) {r : ℕ} {b : Bool} → r ≡ bool_byte b → b ≡ is_other code a → r ≡ cond (is_other code a) 1 0
+  counts a {b = b} e is = e ∙ byte_is b ∙ ap (λ (x : Bool). cond x 1 0) is
+
   -- a cell and those after it
   others_cons :
       (a s : ℕ) (cells held : List ℕ)
@@ -102,8 +99,6 @@ module _ (code : ℕ) where
       chosen true = omega arith
       chosen false = omega arith
 
-  -- ---- the first
-
   -- the cells from i on
   others_from :
       (cells held : List ℕ) (i : ℕ) → length held ≡ length cells → i < length cells
@@ -114,34 +109,6 @@ module _ (code : ℕ) where
   others_from cells held i same l =
       rw (drop-cons cells i 0 l, drop-cons held i 0 (omega (arith, same)))
       (others_cons (get_or cells i 0) (get_or held i 0) (drop (suc i) cells) (drop (suc i) held))
-
-  -- no cell before i counts
-  pub record Passed (cells : List ℕ) (i : ℕ) : Type 0 where
-    pub all_left : other_count code (drop i cells) ≡ other_count code cells
-    pub pairs_left : (held : List ℕ) → length held ≡ length cells → others code cells held ≡ others code (drop i cells) (drop i held)
-
-  pub passed_none : (cells : List ℕ) → Passed cells 0
-  passed_none cells = record { all_left = refl; pairs_left = λ held same. refl }
-
-  module _ {cells : List ℕ} {i : ℕ} (h : Passed cells i) (some : 0 < other_count code cells) where
-    pub passed_within : i < length cells
-    passed_within = elim (dec_lt i (length cells)) [ yes l ↦ l | no ge ↦ absurd (omega (arith, h.all_left, count_end cells i (omega arith))) ]
-
-    pub passed_next : indicator (is_other code (get_or cells i 0)) ≡ 0 → Passed cells (i + 1)
-    passed_next none =
-        let not-other : is_other code (get_or cells i 0) ≡ false = none_counted (is_other code (get_or cells i 0)) none in
-        record {
-          all_left = omega (arith, h.all_left, rw not-other at (count_from cells i passed_within));
-          pairs_left = λ held same. rw (add-one i) (h.pairs_left held same ∙ rw not-other at (others_from cells held i same passed_within));
-        }
-
-    pub passed_first : (indicator (is_other code (get_or cells i 0)) ≡ 0 → ⊥) → FirstOther code cells i
-    passed_first one =
-        let other : is_other code (get_or cells i 0) ≡ true = one_counted (is_other code (get_or cells i 0)) one in
-        record {
-          within = passed_within;
-          first = λ held same. h.pairs_left held same ∙ rw other at (others_from cells held i same passed_within);
-        }
 
   -- ---- the pairs
 

@@ -1,31 +1,31 @@
 // The list that an edit makes of an old table's pairs, and its table. No pairs are sorted: any order of the same pairs has the same table.
-ghost use Rattle.std.specs.Prelude.{◌+◌, ◌<◌, ◌≤◌, cond, ◌≡◌, length};
+ghost use Rattle.std.specs.Prelude.{◌+◌, ◌<◌, ◌≤◌, ◌≡◌, length};
 ghost use Rattle.search.specs.code.Searchable.{Searchable};
+ghost use Rattle.prelude.specs.Limits.{room};
 ghost use Rattle.prelude.specs.Pairs.{codes_of};
 ghost use Rattle.table.specs.Words.{total};
 ghost use Rattle.reader.specs.Pairs.{pairs_in};
 ghost use Rattle.editor.specs.Edit.{without};
-ghost use Rattle.editor.specs.code.Changes.{is_other, other_count, others, changed, Gatherable, Gathered, Changing, FirstOther, Roomy, Listed, ChangedBuilt, LeftBuilt};
+ghost use Rattle.editor.specs.code.Changes.{is_other, other_count, others, new_pairs, changed, Gatherable, Gathered, NewListed, Changing, Roomy, Listed, ChangedBuilt};
 
 use prelude::limits::{FEW, ROOM};
-use prelude::numbers::{one, wide};
+use prelude::numbers::wide;
 use writer::valid::{write_empty, write_one, write_valid};
 
-// How the list is changed: the code is left out, and where `added` is 1, not 0, put in with a schedule.
+// How the list is changed: the code is left out, and put in where there is a schedule for it.
 #[derive(Clone, Copy)]
 pub(crate) struct Change {
     pub(crate) code: u32,
-    pub(crate) schedule: u32,
-    pub(crate) added: usize,
+    pub(crate) schedule: Option<u32>,
     // how many pairs have other codes
     pub(crate) others: usize,
 }
 
-// 1 for a cell that holds a code other than this one, 0 for any other cell.
-fn other(a: u32, code: u32) -> u32
-    ensures { (result ≡ cond (is_other code a) 1 0) × (result ≤ 1) }
+// A cell with word a holds a code other than this one.
+fn is_other(a: u32, code: u32) -> bool
+    ensures { result ≡ is_other code a }
 {
-    one((a != 0) & (a != code))
+    (a != 0) & (a != code)
 }
 
 // How many cells hold a code other than this one.
@@ -34,10 +34,8 @@ fn count_cells(cells: &[u32], code: u32) -> u32
     ensures { result ≡ other_count code cells.now }
 {
     let mut count: u32 = 0;
-    let mut i: usize = 0;
-    while i < cells.len() {
-        count += other(cells[i], code);
-        i += 1;
+    for &a in cells {
+        count += u32::from(is_other(a, code));
     }
     count
 }
@@ -58,27 +56,44 @@ fn gather_others(cells: &[u32], held: &[u32], code: u32, codes: &mut [u32], sche
     requires { Gatherable code cells.now held.now codes.old schedules.old }
     ensures { Gathered (others code cells.now held.now) codes.new schedules.new }
 {
-    let mut k: usize = 0;
-    let mut i: usize = 0;
+    let mut k = 0;
+    let mut i = 0;
+    // two indices: the place moves only where a cell holds such a code
     while k < codes.len() {
         let a = cells[i];
         codes[k] = a;
         schedules[k] = held[i];
-        k += wide(other(a, code));
+        k += usize::from(is_other(a, code));
         i += 1;
     }
 }
 
-// Lists the changed pairs in the first places.
-fn list_changed(words: &[u32], change: Change, codes: &mut [u32], schedules: &mut [u32])
+// Lists the new pair first, where there is one. Gives how many are listed.
+fn list_new(change: Change, codes: &mut [u32], schedules: &mut [u32]) -> usize
+    requires { (1 ≤ length codes.old) × (length schedules.old ≡ length codes.old) }
+    ensures { NewListed change result codes.new schedules.new }
+{
+    let Some(schedule) = change.schedule else {
+        return 0;
+    };
+    codes[0] = change.code;
+    schedules[0] = schedule;
+    1
+}
+
+// Lists the changed pairs.
+fn list_changed<'a>(
+    words: &[u32],
+    change: Change,
+    codes: &'a mut [u32],
+    schedules: &'a mut [u32],
+) -> (&'a [u32], &'a [u32])
     requires changing { Changing words.now change }
     requires roomy { Roomy change codes.old schedules.old }
-    ensures { Listed words.now change codes.new schedules.new }
+    ensures { Listed words.now change result.0.now result.1.now }
 {
-    let from = change.added;
+    let from = list_new(change, codes, schedules);
     let to = from + change.others;
-    codes[0] = change.code;
-    schedules[0] = change.schedule;
     let c = wide(words[1]);
     let start = 3 + 2 * wide(words[0]);
     let middle = start + c;
@@ -90,89 +105,50 @@ fn list_changed(words: &[u32], change: Change, codes: &mut [u32], schedules: &mu
         &mut codes[from..to],
         &mut schedules[from..to],
     );
+    (&codes[..to], &schedules[..to])
 }
 
-// Writes the table of the changed list, with room for its pairs, and gives the total. No word is written where fewer are lent.
-fn write_listed(
-    p: u32,
-    words: &[u32],
-    change: Change,
-    codes: &mut [u32],
-    schedules: &mut [u32],
-    second: &mut [u32],
-) -> u32
+// Writes the table of the changed list, of at most N pairs, and gives the total. No word is written where fewer are lent.
+fn write_in<const N: usize>(p: u32, words: &[u32], change: Change, second: &mut [u32]) -> u32
     requires searchable { Searchable p (codes_of (changed change (pairs_in words.now))) }
     requires changing { Changing words.now change }
-    requires roomy { Roomy change codes.old schedules.old }
+    requires fits { (length (new_pairs change) + change.others ≤ N) × ((1 ≤ N) × (N ≤ room)) }
     ensures { ChangedBuilt p words.now change second.old result second.new }
 {
-    list_changed(words, change, codes, schedules);
-    let m = change.added + change.others;
-    write_valid(p, &codes[..m], &schedules[..m], second)
+    let mut codes = [0u32; N];
+    let mut schedules = [0u32; N];
+    let (codes, schedules) = list_changed(words, change, &mut codes, &mut schedules);
+    write_valid(p, codes, schedules, second)
 }
 
-// The same with room of its own.
-fn write_changed(p: u32, words: &[u32], change: Change, second: &mut [u32]) -> u32
+// The same of a list of one pair.
+fn write_alone(p: u32, words: &[u32], change: Change, second: &mut [u32]) -> u32
+    requires searchable { Searchable p (codes_of (changed change (pairs_in words.now))) }
+    requires changing { Changing words.now change }
+    requires alone { length (new_pairs change) + change.others ≡ 1 }
+    ensures { ChangedBuilt p words.now change second.old result second.new }
+{
+    let mut codes = [0u32; 1];
+    let mut schedules = [0u32; 1];
+    let (codes, schedules) = list_changed(words, change, &mut codes, &mut schedules);
+    write_one(codes[0], schedules[0], second)
+}
+
+// The same of any changed list. No pair and one pair need no room, and none is cleared.
+pub(crate) fn write_changed(p: u32, words: &[u32], change: Change, second: &mut [u32]) -> u32
     requires searchable { Searchable p (codes_of (changed change (pairs_in words.now))) }
     requires changing { Changing words.now change }
     ensures { ChangedBuilt p words.now change second.old result second.new }
 {
-    if change.added + change.others <= FEW {
-        let mut codes = [0u32; FEW];
-        let mut schedules = [0u32; FEW];
-        return write_listed(p, words, change, &mut codes, &mut schedules, second);
-    }
-    let mut codes = [0u32; ROOM];
-    let mut schedules = [0u32; ROOM];
-    write_listed(p, words, change, &mut codes, &mut schedules, second)
-}
-
-// Writes the table of the pairs with the new one. Where there are no others it needs no room, and none is cleared.
-pub(crate) fn write_with_new(p: u32, words: &[u32], change: Change, second: &mut [u32]) -> u32
-    requires searchable { Searchable p (codes_of (changed change (pairs_in words.now))) }
-    requires changing { Changing words.now change × (change.added ≡ 1) }
-    ensures { ChangedBuilt p words.now change second.old result second.new }
-{
-    if change.others == 0 {
-        return write_one(change.code, change.schedule, second);
-    }
-    write_changed(p, words, change, second)
-}
-
-// The first cell that holds a code other than this one: there is one.
-fn other_cell(cells: &[u32], code: u32) -> usize
-    requires { 0 < other_count code cells.now }
-    ensures { FirstOther code cells.now result }
-{
-    let mut i: usize = 0;
-    while other(cells[i], code) == 0 {
-        i += 1;
-    }
-    i
-}
-
-// Writes the table of the one pair that is left.
-fn write_left(words: &[u32], change: Change, second: &mut [u32]) -> u32
-    requires { Changing words.now change × ((change.added ≡ 0) × (change.others ≡ 1)) }
-    ensures { LeftBuilt words.now change second.old result second.new }
-{
-    let start = 3 + 2 * wide(words[0]);
-    let middle = start + wide(words[1]);
-    let i = other_cell(&words[start..middle], change.code);
-    write_one(words[start + i], words[middle + i], second)
-}
-
-// Writes the table of the pairs that are left. None or one need no room, and none is cleared.
-pub(crate) fn write_without(p: u32, words: &[u32], change: Change, second: &mut [u32]) -> u32
-    requires searchable { Searchable p (codes_of (changed change (pairs_in words.now))) }
-    requires changing { Changing words.now change × (change.added ≡ 0) }
-    ensures { ChangedBuilt p words.now change second.old result second.new }
-{
-    if change.others == 0 {
+    let pairs = usize::from(change.schedule.is_some()) + change.others;
+    if pairs == 0 {
         return write_empty(second);
     }
-    if change.others == 1 {
-        return write_left(words, change, second);
+    if pairs == 1 {
+        return write_alone(p, words, change, second);
     }
-    write_changed(p, words, change, second)
+    if pairs <= FEW {
+        return write_in::<FEW>(p, words, change, second);
+    }
+    write_in::<ROOM>(p, words, change, second)
 }

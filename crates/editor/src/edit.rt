@@ -9,7 +9,7 @@ ghost use Rattle.editor.specs.Edited.{edit_error_of, edited_of};
 ghost use Rattle.editor.specs.declared.edit.EditError.TheVariants.{Refused};
 ghost use Rattle.editor.specs.code.Editing.{InRange, PutIn, TakenOut};
 
-use crate::changes::{Change, count_others, write_with_new, write_without};
+use crate::changes::{Change, count_others, write_changed};
 use audit::check::{CheckError, check_for};
 use prelude::answers::{Numbered, Refusal};
 use prelude::limits::MOST_PAIRS;
@@ -67,7 +67,14 @@ fn rebuilt(lent: usize, total: u32) -> Result<u32, EditError>
 }
 
 // From 53 on: a table with as many other codes as the limit is full.
-fn put_in(p: u32, limit: u32, words: &[u32], code: u32, schedule: u32, second: &mut [u32]) -> Result<u32, EditError>
+fn put_in(
+    p: u32,
+    limit: u32,
+    words: &[u32],
+    code: u32,
+    schedule: u32,
+    second: &mut [u32],
+) -> Result<u32, EditError>
     requires prime { Prime p }
     requires limit_le_room { limit ≤ room }
     requires well_formed { WellFormed p limit words.now }
@@ -80,17 +87,22 @@ fn put_in(p: u32, limit: u32, words: &[u32], code: u32, schedule: u32, second: &
     }
     let change = Change {
         code,
-        schedule,
-        added: 1,
+        schedule: Some(schedule),
         others,
     };
     let lent = second.len();
-    let total = write_with_new(p, words, change, second);
+    let total = write_changed(p, words, change, second);
     rebuilt(lent, total)
 }
 
 // From 55 on: a table whose codes are all others does not have the code.
-fn take_out(p: u32, limit: u32, words: &[u32], code: u32, second: &mut [u32]) -> Result<u32, EditError>
+fn take_out(
+    p: u32,
+    limit: u32,
+    words: &[u32],
+    code: u32,
+    second: &mut [u32],
+) -> Result<u32, EditError>
     requires prime { Prime p }
     requires limit_le_room { limit ≤ room }
     requires well_formed { WellFormed p limit words.now }
@@ -102,12 +114,11 @@ fn take_out(p: u32, limit: u32, words: &[u32], code: u32, second: &mut [u32]) ->
     }
     let change = Change {
         code,
-        schedule: 0,
-        added: 0,
+        schedule: None,
         others,
     };
     let lent = second.len();
-    let total = write_without(p, words, change, second);
+    let total = write_changed(p, words, change, second);
     rebuilt(lent, total)
 }
 
@@ -135,7 +146,13 @@ fn insert_for(
 }
 
 // Taking out for a prime p and a limit on the codes of a table.
-fn remove_for(p: u32, limit: u32, words: &[u32], code: u32, second: &mut [u32]) -> Result<u32, EditError>
+fn remove_for(
+    p: u32,
+    limit: u32,
+    words: &[u32],
+    code: u32,
+    second: &mut [u32],
+) -> Result<u32, EditError>
     requires prime { Prime p }
     requires limit_le_room { limit ≤ room }
     ensures { Removed p limit words.now code second.old (edited_of result) second.new }

@@ -1,12 +1,9 @@
--- `editor::changes::count_cells` meets its contract. Invariant: the cells before i are counted. The measure is what is left.
-use Prim.Native.Nat.{◌+◌, ◌-◌, ◌≤◌}
+-- `editor::changes::count_cells` meets its contract. Invariant: the cells so far are counted.
+use Prim.Native.Nat.{◌+◌}
 use mathlib.Core.Path.{◌≡◌}
-use lib.ListN.{length, drop}
+use lib.ListN.{drop}
 use Rattle.editor.specs.code.Changes.{other_count}
 use Rattle.editor.proofs.changes.count_cells.Given as goal
 
-abbrev pub invariant-loop-i : goal.invariant-loop-i
-invariant-loop-i l = (l.i ≤ length l.cells) × (l.count + other_count l.code (drop l.i l.cells) ≡ other_count l.code l.cells)
-
-abbrev pub decreases-loop-i : goal.decreases-loop-i
-decreases-loop-i l = length l.cells - l.i
+abbrev pub invariant-loop-a : goal.invariant-loop-a
+invariant-loop-a l = l.count + other_count l.code (drop l.a-index l.cells) ≡ other_count l.code l.cells

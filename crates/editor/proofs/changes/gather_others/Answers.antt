@@ -1,5 +1,6 @@
 use native.Mathlib.Omega.{arith}
-use Rattle.editor.proofs.Gathering.{gathering_more, gathering_next}
+use lib.ListN.{get_or}
+use Rattle.editor.proofs.Gathering.{counts, gathering_more, gathering_next}
 use Rattle.editor.proofs.changes.gather_others.Goals as goal
 
 pub bounds-cells-i : goal.bounds-cells-i
@@ -13,4 +14,4 @@ pub loop-k-smaller : goal.loop-k-smaller
 loop-k-smaller c = omega (arith, gathering_more _ c.loop-k.invariant c.loop-k-test.true)
 
 pub loop-k-preserved : goal.loop-k-preserved
-loop-k-preserved c = rw (c.wide-k.ensures.value, c.other.ensures.0) (gathering_next _ c.loop-k.invariant c.loop-k-test.true)
+loop-k-preserved c = rw (counts c.args.code (get_or c.args.cells.now c.loop-k.i 0) c.from-k.ensures c.is_other.ensures) (gathering_next _ c.loop-k.invariant c.loop-k-test.true)

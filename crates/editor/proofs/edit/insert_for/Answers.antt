@@ -1,7 +1,7 @@
 -- `editor::edit::insert_for` meets its contract: its tests are the definition's, in the same order.
 use Prim.Native.Nat.{◌-◌}
 use mathlib.Core.Bool.{false}
-use mathlib.Core.Path.{◌≡◌, sym, ap, ◌∙◌}
+use mathlib.Core.Path.{◌≡◌, sym, ◌∙◌}
 use native.Mathlib.Omega.{arith}
 use Rattle.prelude.specs.Answers.{outside}
 use Rattle.prelude.proofs.Laws.{within}

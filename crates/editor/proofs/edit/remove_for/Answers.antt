@@ -1,7 +1,7 @@
 -- `editor::edit::remove_for` meets its contract: its tests are the definition's, in the same order.
 use Prim.Native.Nat.{◌-◌}
 use mathlib.Core.Bool.{false}
-use mathlib.Core.Path.{◌≡◌, sym, ap, ◌∙◌}
+use mathlib.Core.Path.{◌≡◌, sym, ◌∙◌}
 use Rattle.prelude.specs.Answers.{outside}
 use borrow.Author.Rules.{rules}
 use Rattle.std.specs.Prelude.{Err}

@@ -1,6 +1,5 @@
 -- `editor::edit::take_out` meets its contract: the code is not there exactly where all codes are others.
-use mathlib.Core.Path.{◌≡◌, refl, sym, ◌∙◌}
-use native.Mathlib.Omega.{arith}
+use mathlib.Core.Path.{◌≡◌, sym, ◌∙◌}
 use lib.ListN.{length}
 use Rattle.table.specs.Words.{code_count}
 use Rattle.reader.specs.Pairs.{pairs_in}
@@ -14,13 +13,13 @@ returns-then-others-wide c =
     refusal 55 0
     (gone c.requires.well_formed _ _ (sym c.count_others-others.ensures ∙ c.if-others-wide.true ∙ c.wide.ensures.value))
 
-pub write_without-total-requires : goal.write_without-total-requires
+pub write_changed-total-requires : goal.write_changed-total-requires
 unfolding changed
-write_without-total-requires c = record { searchable = without_searchable c.requires.well_formed _ c.requires.prime c.requires.limit_le_room; changing = (record { whole = c.requires.well_formed.whole; at_most_one = omega arith; others_are = c.count_others-others.ensures }, refl) }
+write_changed-total-requires c = record { searchable = without_searchable c.requires.well_formed _ c.requires.prime c.requires.limit_le_room; changing = record { whole = c.requires.well_formed.whole; others_are = c.count_others-others.ensures } }
 
 pub returns : goal.returns
 unfolding changed
 returns c =
     let is_there : length (without c.args.code (pairs_in c.args.words.now)) ≡ code_count c.args.words.now → ⊥ = λ e. c.if-others-wide.false (c.count_others-others.ensures ∙ e ∙ sym c.wide.ensures.value) in
     out_outcome c.requires.well_formed _ is_there
-    (rebuilding (without c.args.code (pairs_in c.args.words.now)) c.write_without-total.ensures c.rebuilt.ensures)
+    (rebuilding (without c.args.code (pairs_in c.args.words.now)) c.write_changed-total.ensures c.rebuilt.ensures)
