@@ -1,5 +1,5 @@
 -- A bit set of residues mod 65,536: 64 to a word. The residue of each code before i is in the set, so a code whose residue is not is none of them.
-use Prim.Native.Nat.{ℕ, ◌+◌, ◌^◌, ◌<◌, ◌≤◌}
+use Prim.Native.Nat.{ℕ, ◌+◌, ◌/◌, ◌%◌, ◌^◌, ◌<◌}
 use mathlib.Core.Bool.{false}
 use mathlib.Core.List.{List}
 use mathlib.Core.Path.{◌≡◌, sym, ap, ◌∙◌}
@@ -9,9 +9,20 @@ use lib.Bits.{bit_and, bit_or}
 use lib.ListN.{length, get_or, take, set, length-set}
 use lib.Seq.{get_or-set_same, get_or-set_other, get_or-take, length-take-le}
 use Rattle.repeats.specs.Repeated.{repeated}
-use Rattle.repeats.specs.code.Residues.{word, digit, ResiduesTaken, Collision}
 use Rattle.prelude.proofs.Among.{among_none}
-use Rattle.hash.proofs.BitSets.{has, not_common, put_same, put_keeps, none_common}
+use Rattle.hash.proofs.BitSets.{put_same, put_keeps, none_common}
+
+-- the word and the digit of a code's residue
+abbrev pub word : ℕ → ℕ
+word a = a % 65536 / 64
+
+abbrev pub digit : ℕ → ℕ
+digit a = a % 65536 % 64
+
+-- the residue of each code before i is in the set
+pub record ResiduesTaken (codes : List ℕ) (i : ℕ) (taken : List ℕ) : Type 0 where
+  pub sized : length taken ≡ 1024
+  pub in_set : (j : ℕ) → j < i → get_or taken (word (get_or codes j 0)) 0 / 2 ^ digit (get_or codes j 0) % 2 ≡ 1
 
 pub residues_start : (codes taken : List ℕ) → length taken ≡ 1024 → ResiduesTaken codes 0 taken
 residues_start codes taken size = record { sized = size; in_set = λ j l. absurd (omega arith) }
@@ -50,65 +61,3 @@ module _ {codes : List ℕ} {i : ℕ} {taken : List ℕ} (h : ResiduesTaken code
                   ]
             ];
       }
-
-  pub residues_met : (bit_and before bit ≡ 0 → ⊥) → ResiduesTaken codes (i + 1) taken
-  residues_met met =
-      let here : has before (digit a) ≡ 1 =
-      elim (ℕ_discrete (has before (digit a)) 0) [
-        | yes none ↦ absurd (met (ap (bit_and before) is ∙ not_common before (digit a) none))
-        | no some ↦ omega arith
-      ] in
-      record {
-        sized = h.sized;
-        in_set = λ j m. elim (ℕ_discrete j i) [ yes e ↦ rw e here | no ne ↦ h.in_set j (omega arith) ];
-      }
-
--- ---- up to the next collision
-
--- none of the codes before i, from one on, is repeated, and the residues of all before i are in the set
-pub record Passed (codes : List ℕ) (from i : ℕ) (taken : List ℕ) : Type 0 where
-  pub residues : ResiduesTaken codes i taken
-  pub next : from ≤ i
-  pub within : i ≤ length codes
-  pub none : (j : ℕ) → from ≤ j → j < i → repeated codes j ≡ false
-
-pub passed_none : {codes : List ℕ} {from : ℕ} {taken : List ℕ} → ResiduesTaken codes from taken → from ≤ length codes → Passed codes from from taken
-passed_none h l = record { residues = h; next = omega arith; within = l; none = λ j from below. absurd (omega arith) }
-
-module _ {codes : List ℕ} {from i : ℕ} {taken : List ℕ} (h : Passed codes from i taken) where
-  pub passed_end : length codes ≤ i → Collision codes from i taken
-  passed_end l =
-      record {
-        next = h.next;
-        within = h.within;
-        none = h.none;
-        sized = h.residues.sized;
-        residues = λ m. absurd (omega arith);
-      }
-
-  module _ (l : i < length codes) (bit : ℕ) (is : bit ≡ 2 ^ digit (get_or codes i 0)) where
-    abbrev more : List ℕ
-    more = set taken (word (get_or codes i 0)) (bit_or (get_or taken (word (get_or codes i 0)) 0) bit)
-
-    pub passed_more : bit_and (get_or taken (word (get_or codes i 0)) 0) bit ≡ 0 → Passed codes from (i + 1) more
-    passed_more free =
-        record {
-          residues = residues_more h.residues bit is;
-          next = omega (arith, h.next);
-          within = omega arith;
-          none = λ j begun below.
-              elim (ℕ_discrete j i) [
-                | yes e ↦ rw e (residues_new h.residues bit is l free)
-                | no ne ↦ h.none j begun (omega arith)
-              ];
-        }
-
-    pub passed_collision : (bit_and (get_or taken (word (get_or codes i 0)) 0) bit ≡ 0 → ⊥) → Collision codes from i taken
-    passed_collision met =
-        record {
-          next = h.next;
-          within = h.within;
-          none = h.none;
-          sized = h.residues.sized;
-          residues = λ m. residues_met h.residues bit is met;
-        }

@@ -1,3 +1,2 @@
--- What the functions that look for a repeated code rely on and promise: the residues of codes as a bit set, and indices by rising code.
-pub mod Residues
+-- What the functions that sort indices by rising code rely on and promise.
 pub mod Order

@@ -1,14 +1,14 @@
 // Codes equal to an earlier one (refusal 5).
 #![tactic(auto)]
 
-ghost use Rattle.std.specs.Prelude.{◌<◌, ◌≤◌, ◌≡◌, length, take};
-ghost use Rattle.prelude.specs.Answers.{first_of, first_where};
+ghost use Rattle.std.specs.Prelude.{◌<◌, ◌≤◌, ◌≡◌, length, IfOk};
+ghost use Rattle.prelude.specs.Answers.{first_where};
 ghost use Rattle.prelude.specs.Limits.{room};
 ghost use Rattle.prelude.specs.Pairs.{among};
 ghost use Rattle.repeats.specs.Repeated.{repeated};
-ghost use Rattle.repeats.specs.code.Residues.{ResiduesTaken, Collision};
 
 use crate::order::first_by_order;
+use prelude::numbers::wide;
 
 mod order;
 
@@ -19,16 +19,16 @@ const SHORT: usize = 32;
 // some 125.
 const COLLISIONS: u32 = 192;
 
-// Whether a is among the first i codes. All of them are compared, branch-free.
-fn is_among(codes: &[u32], i: usize, a: u32) -> bool
-    requires { i ≤ length codes.now }
-    ensures { result ≡ among a (take i codes.now) }
+// So many residues collide that the comparisons would take too long.
+struct TooManyCollisions;
+
+// Whether a is among the codes. All of them are compared, branch-free.
+fn is_among(codes: &[u32], a: u32) -> bool
+    ensures { result ≡ among a codes.now }
 {
     let mut found = false;
-    let mut j = 0;
-    while j < i {
-        found = found | (a == codes[j]);
-        j += 1;
+    for &code in codes {
+        found = found | (a == code);
     }
     found
 }
@@ -38,63 +38,46 @@ fn is_repeated(codes: &[u32], i: usize) -> bool
     requires { i < length codes.now }
     ensures { result ≡ repeated codes.now i }
 {
-    is_among(codes, i, codes[i])
+    is_among(&codes[..i], codes[i])
 }
 
-// The first code that is equal to an earlier one, or the list's length: every code is compared with those before it.
-fn first_in_few(codes: &[u32]) -> usize
-    ensures { result ≡ first_of (length codes.now) (repeated codes.now) }
+// The first code that is equal to an earlier one: every code is compared with those before it.
+fn first_in_few(codes: &[u32]) -> Option<usize>
+    ensures { result ≡ first_where (length codes.now) (repeated codes.now) }
 {
-    let mut i = 0;
-    while i < codes.len() {
+    for i in 0..codes.len() {
         if is_repeated(codes, i) {
-            return i;
+            return Some(i);
         }
-        i += 1;
     }
-    i
+    None
 }
 
-// The next code, from one on, whose residue mod 65,536 is in a bit set, or the list's length; residues that are not are put there. A code whose residue is not
-// there is none of those before it.
-fn next_collision(codes: &[u32], from: usize, taken: &mut [u64]) -> usize
-    requires { ResiduesTaken codes.now from taken.old × (from ≤ length codes.now) }
-    ensures { Collision codes.now from result taken.new }
-{
-    let mut i = from;
-    while i < codes.len() {
-        let residue = (codes[i] as usize) % 65536;
-        let bit = 1u64 << (residue % 64);
-        let before = taken[residue / 64];
-        if before & bit != 0 {
-            return i;
-        }
-        taken[residue / 64] = before | bit;
-        i += 1;
-    }
-    i
-}
-
-// The first code that is equal to an earlier one, or the list's length: a code is compared with those before it where their residues collide. After many
-// collisions it gives up, with a number above the list's length.
-fn first_by_residues(codes: &[u32]) -> usize
-    ensures { result ≤ length codes.now → result ≡ first_of (length codes.now) (repeated codes.now) }
+// The same by a bit set of residues mod 65,536: a code is compared with those before it where its residue is already there. One whose residue is not there is
+// none of those before it.
+fn first_by_residues(codes: &[u32]) -> Result<Option<usize>, TooManyCollisions>
+    ensures { IfOk result (λ first. first ≡ first_where (length codes.now) (repeated codes.now)) }
 {
     let mut taken = [0u64; 1024];
-    let mut from = 0;
     let mut left = COLLISIONS;
-    while 0 < left {
-        let i = next_collision(codes, from, &mut taken);
-        if i == codes.len() {
-            return i;
+    for (i, &code) in codes.iter().enumerate() {
+        let residue = wide(code) % 65536;
+        let bit = 1u64 << (residue % 64);
+        let before = taken[residue / 64];
+        taken[residue / 64] = before | bit;
+        let collides = before & bit != 0;
+        if collides {
+            let again = is_repeated(codes, i);
+            if again {
+                return Ok(Some(i));
+            }
+            if left == 0 {
+                return Err(TooManyCollisions);
+            }
+            left -= 1;
         }
-        if is_repeated(codes, i) {
-            return i;
-        }
-        from = i + 1;
-        left -= 1;
     }
-    codes.len() + 1
+    Ok(None)
 }
 
 // The first code that is equal to an earlier one.
@@ -102,21 +85,11 @@ pub fn first_repeated(codes: &[u32]) -> Option<usize>
     requires { length codes.now ≤ room }
     ensures { result ≡ first_where (length codes.now) (repeated codes.now) }
 {
-    let n = codes.len();
-    let i = first(codes);
-    if i < n { Some(i) } else { None }
-}
-
-fn first(codes: &[u32]) -> usize
-    requires { length codes.now ≤ room }
-    ensures { result ≡ first_of (length codes.now) (repeated codes.now) }
-{
     if codes.len() <= SHORT {
         return first_in_few(codes);
     }
-    let i = first_by_residues(codes);
-    if i <= codes.len() {
-        return i;
+    match first_by_residues(codes) {
+        Ok(first) => first,
+        Err(TooManyCollisions) => first_by_order(codes),
     }
-    first_by_order(codes)
 }

@@ -1,25 +1,31 @@
-use Prim.Native.Nat.{◌<◌}
-use mathlib.Core.Path.{sym, ◌∙◌}
-use native.Mathlib.Decide.{dec_lt}
+use mathlib.Core.Bool.{true}
+use mathlib.Core.Path.{◌≡◌, sym, ◌∙◌}
 use native.Mathlib.Omega.{arith}
-use lib.ListN.{length}
-use Rattle.prelude.proofs.First.{Below, first_found, first_end}
+use Rattle.std.proofs.Common.{rules}
+use Rattle.hash.proofs.BitSets.{single_is}
+use Rattle.prelude.proofs.First.{below_next}
+use Rattle.prelude.proofs.Where.{where_found, where_none}
 use Rattle.repeats.specs.Repeated.{repeated}
+use Rattle.repeats.proofs.Residues.{residues_more, residues_new}
+use Rattle.repeats.proofs.first_by_residues.Goals.{then-collides+else-again+else-left-eq0, else-collides}
 use Rattle.repeats.proofs.first_by_residues.Goals as goal
 
-pub returns-then-i-codes : goal.returns-then-i-codes
-returns-then-i-codes c l =
-    let below : Below (repeated c.args.codes.now) c.next_collision-i.result = λ j l. elim (dec_lt j c.loop-left.from) [
-      | yes before ↦ c.loop-left.invariant.1.1 j before
-      | no after ↦ c.next_collision-i.ensures.none j (omega arith) l
-    ] in
-    sym (first_end _ _ c.next_collision-i.result l (omega (arith, c.if-i-codes.true)) below)
+pub returns-then-again : goal.returns-then-again
+returns-then-again c =
+    let is : repeated c.args.codes.now c.loop-i.i ≡ true = search rules in
+    sym (where_found _ _ c.loop-i.i c.loop-i-test.true c.loop-i.invariant.1 is)
 
-pub returns-then-is_repeated : goal.returns-then-is_repeated
-returns-then-is_repeated c l =
-    let below : Below (repeated c.args.codes.now) c.next_collision-i.result = λ j l. elim (dec_lt j c.loop-left.from) [
-      | yes before ↦ c.loop-left.invariant.1.1 j before
-      | no after ↦ c.next_collision-i.ensures.none j (omega arith) l
-    ] in
-    let left : c.next_collision-i.result < length c.args.codes.now = omega (arith, c.if-i-codes.false) in
-    sym (first_found _ _ c.next_collision-i.result left below (sym c.is_repeated.ensures ∙ c.if-is_repeated.true))
+pub loop-i-preserved : goal.loop-i-preserved
+loop-i-preserved c =
+    let value = c.wide-residue.ensures.value in
+    let bit = single_is _ (omega arith) in (
+      rw value (residues_more c.loop-i.invariant.0 _ bit),
+      below_next _ c.loop-i.i c.loop-i.invariant.1
+          (elim c.if-collides.branch [
+            | then-collides+else-again+else-left-eq0 w ↦ sym w.is_repeated-again.ensures ∙ w.if-again.false
+            | else-collides w ↦ residues_new c.loop-i.invariant.0 _ bit c.loop-i-test.true (rw value at w.if-collides.false)
+          ]),
+    )
+
+pub returns : goal.returns
+returns c = sym (where_none _ _ (λ j l. c.loop-i.invariant.1 j (omega (arith, c.loop-i-test.false))))

@@ -1,14 +1,8 @@
--- `repeats::first_by_residues` meets its contract. Invariant: the residue of each code before `from` is in the bit set, and none of these codes is
--- repeated. The measure is the collisions that are left.
-use Prim.Native.Nat.{◌≤◌}
-use lib.ListN.{length}
+-- `repeats::first_by_residues` meets its contract. Invariant: the residue of each code before i is in the bit set, and none of these codes is repeated.
 use Rattle.prelude.proofs.First.{Below}
 use Rattle.repeats.specs.Repeated.{repeated}
-use Rattle.repeats.specs.code.Residues.{ResiduesTaken}
+use Rattle.repeats.proofs.Residues.{ResiduesTaken}
 use Rattle.repeats.proofs.first_by_residues.Given as goal
 
-abbrev pub invariant-loop-left : goal.invariant-loop-left
-invariant-loop-left l = ResiduesTaken l.codes l.from l.taken × ((l.from ≤ length l.codes) × Below (repeated l.codes) l.from)
-
-abbrev pub decreases-loop-left : goal.decreases-loop-left
-decreases-loop-left l = l.left
+abbrev pub invariant-loop-i : goal.invariant-loop-i
+invariant-loop-i l = ResiduesTaken l.codes l.i l.taken × Below (repeated l.codes) l.i

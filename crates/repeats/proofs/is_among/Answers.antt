@@ -1,16 +1,21 @@
-use mathlib.Core.Path.{refl}
+use mathlib.Core.Path.{refl, ap, ◌∙◌}
+use mathlib.Core.List.{List}
+use Prim.Native.Nat.{ℕ}
 use native.Mathlib.Numerals.{add-one}
-use borrow.Author.Rules.{rules}
+use native.Mathlib.Omega.{arith}
+use lib.Seq.{take_all}
 use Rattle.prelude.specs.Pairs.{among}
 use Rattle.prelude.proofs.Among.{among_suc}
 use Rattle.repeats.proofs.is_among.Goals as goal
 
-pub loop-j-init : goal.loop-j-init
+pub loop-code-init : goal.loop-code-init
 unfolding among
-loop-j-init c = (search rules, refl)
+loop-code-init c = refl
 
-pub loop-j-preserved : goal.loop-j-preserved
-loop-j-preserved c = (
-  search rules,
-  rw (add-one c.loop-j.j, among_suc c.args.a c.args.codes.now c.loop-j.j (search rules), ← c.loop-j.invariant.1),
-)
+pub loop-code-preserved : goal.loop-code-preserved
+loop-code-preserved c =
+    rw (add-one c.loop-code.code-index, among_suc c.args.a c.args.codes.now c.loop-code.code-index c.loop-code-test.true, ← c.loop-code.invariant)
+
+pub returns : goal.returns
+returns c =
+    c.loop-code.invariant ∙ ap (λ (l : List ℕ). among c.args.a l) (take_all c.loop-code.code-index c.args.codes.now (omega (arith, c.loop-code-test.false)))
