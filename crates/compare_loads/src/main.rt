@@ -2,7 +2,7 @@
 // the load, and where it is asked the table's listing. tools/second_program.py makes the input and the lines that are expected, and says what is in them.
 #![tactic(auto)]
 
-use digests::digest_words;
+use digests::digest;
 use digests::lent::count_from;
 use prelude::numbers::wide;
 
@@ -30,7 +30,7 @@ fn print_table(words: &[u32]) {
     print_field(wide(words[1]) as u64);
     print_field(wide(words[2]) as u64);
     print_field(words.len() as u64);
-    print_field(digest_words(words));
+    print_field(digest(words));
     io::write_all(1, b"\n");
 }
 
@@ -81,8 +81,8 @@ fn generate_and_print(listed: bool, n: usize, codes: &mut [u32], schedules: &mut
     io::write_all(1, b"generated");
     print_field(number as u64);
     print_field(value as u64);
-    print_field(digest_words(codes));
-    print_field(digest_words(schedules));
+    print_field(digest(codes));
+    print_field(digest(schedules));
     io::write_all(1, b"\n");
     if number == 0 {
         build_load(listed, n, codes, schedules);

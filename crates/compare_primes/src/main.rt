@@ -3,16 +3,33 @@
 // lines that are expected. Input: the prime, n, n codes and n schedules, four bytes each, least first.
 #![tactic(auto)]
 
-ghost use Rattle.std.specs.Prelude.{◌≡◌, length};
+ghost use Rattle.std.specs.Prelude.{◌≡◌};
 ghost use Rattle.hash.specs.Theorems.{Prime};
+ghost use Rattle.compare_primes.specs.declared.CaseError.TheVariants.{List};
 
-use comparing::{print_table, read_both_orders, read_words};
+use comparing::{ReadError, build_both, each_case, print_table, read_list};
 use digests::lent::count_from;
 use lists::list::validate;
 use prelude::limits::{Format, MOST_PAIRS};
 use prelude::numbers::wide;
 use table::primes::is_table_prime;
 use writer::valid::write_valid;
+
+// Why there is no further list.
+#[derive(Clone, Copy)]
+enum CaseError {
+    List(ReadError),
+    // none of the three primes
+    OtherPrime,
+}
+
+impl From<ReadError> for CaseError {
+    ghost from_gives = { λ e r. r ≡ List e };
+
+    fn from(e: ReadError) -> CaseError {
+        CaseError::List(e)
+    }
+}
 
 fn build_and_print(p: u32, codes: &[u32], schedules: &[u32])
     requires { Prime p }
@@ -31,69 +48,29 @@ fn build_and_print(p: u32, codes: &[u32], schedules: &[u32])
     if 16384 < total {
         return;
     }
-    let before = [p];
-    print_table(&before, &words[..total]);
+    print_table(&[p], &words[..total]);
 }
 
-// One list of as many pairs as there are places; false where the input ends first.
-fn read_and_build(
-    p: u32,
-    codes: &mut [u32],
-    schedules: &mut [u32],
-    codes2: &mut [u32],
-    schedules2: &mut [u32],
-) -> bool
-    requires prime { Prime p }
-    requires codes2_len { (length codes2.old ≡ length codes.old) × (length schedules2.old ≡ length schedules.old) }
-{
-    if !read_both_orders(codes, schedules, codes2, schedules2) {
-        return false;
-    }
-    build_and_print(p, codes, schedules);
-    build_and_print(p, codes2, schedules2);
-    true
-}
-
-// One list of n pairs; false where the input ends first, or the list is too long.
-fn build_next(p: u32, n: usize) -> bool
+// The next list of n pairs.
+fn build_next(p: u32, n: usize) -> Result<(), ReadError>
     requires { Prime p }
 {
-    if 2048 < n {
-        return false;
-    }
-    let mut codes = [0u32; 2048];
-    let mut schedules = [0u32; 2048];
-    let mut codes2 = [0u32; 2048];
-    let mut schedules2 = [0u32; 2048];
-    read_and_build(
-        p,
-        &mut codes[..n],
-        &mut schedules[..n],
-        &mut codes2[..n],
-        &mut schedules2[..n],
-    )
+    build_both(n, |codes, schedules| build_and_print(p, codes, schedules))
 }
 
-// The next prime and its list; false at the end of the input, or where it is none of the three.
-fn next_list() -> bool {
+// The next prime and its list; an error at the end of the input.
+fn next_list() -> Result<(), CaseError> {
     let mut first = [0u32; 2];
-    if read_words(&mut first) < 2 {
-        return false;
-    }
+    read_list(&mut first)?;
     let p = first[0];
     if !is_table_prime(p) {
-        return false;
+        return Err(CaseError::OtherPrime);
     }
-    build_next(p, wide(first[1]))
+    build_next(p, wide(first[1]))?;
+    Ok(())
 }
 
 fn main() {
-    // an input of more lists than this is left there
-    let mut left: u32 = 1000000;
-    while 0 < left {
-        if !next_list() {
-            return;
-        }
-        left = left - 1;
-    }
+    // an error ends the input
+    let _ = each_case(next_list);
 }

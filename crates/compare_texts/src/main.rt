@@ -5,7 +5,7 @@
 ghost use Rattle.std.specs.Prelude.{◌+◌, ◌<◌, ◌≤◌, length};
 
 use digests::lent::count_from;
-use digests::{digest_bytes, digest_words};
+use digests::digest;
 
 // The most pairs, and the most bytes of a text, that are printed.
 const SHORT: usize = 32;
@@ -68,8 +68,8 @@ fn read_and_print(text: &[u8], codes: &mut [u32], schedules: &mut [u32]) {
     let number = answer.number;
     let n = answer.value;
     print_answer(b"read", number, n);
-    print_field(digest_words(codes));
-    print_field(digest_words(schedules));
+    print_field(digest(codes));
+    print_field(digest(schedules));
     if number == 0 {
         print_pairs(n, codes, schedules);
     }
@@ -82,7 +82,7 @@ fn write_and_print(codes: &[u32], schedules: &[u32], text: &mut [u8]) {
     let number = answer.number;
     let n = answer.value;
     print_answer(b"written", number, n);
-    print_field(digest_bytes(text));
+    print_field(digest(text));
     io::write_all(1, b"\n");
     if number == 0 {
         print_text(n, text);

@@ -1,14 +1,26 @@
-// What the programs that build lists and compare share: words from the input, and the line of a table.
+// What the programs that compare share: words and lists from the input, and the fields and lines that are printed.
 #![tactic(auto)]
 
-ghost use Rattle.std.specs.Prelude.{◌≤◌, true, ◌≡◌, leb, length};
-ghost use Rattle.comparing.specs.Orders.{BothOrders};
+ghost use Rattle.std.specs.Prelude.{◌≤◌, ◌<◌, ◌↔◌, ◌≡◌, leb, length, OnOk, IsErrOf};
+ghost use Rattle.comparing.specs.Orders.{BothOrders, BuiltBoth};
 
+use digests::digest;
 use digests::lent::reverse;
-use prelude::numbers::wide;
+
+// The most pairs of a list.
+const MOST: usize = 2048;
 
 // The most codes of a table whose words are printed.
 const SHORT: u32 = 32;
+
+// Why there is no further list.
+#[derive(Clone, Copy, Debug, PartialEq, Eq)]
+pub enum ReadError {
+    // the input ends first
+    Ended,
+    // more places than a list has pairs
+    TooLong,
+}
 
 // Fills the first places with the next words of the input, by way of these bytes, and answers how many.
 fn read_by(bytes: &mut [u8], list: &mut [u32]) -> usize
@@ -23,7 +35,7 @@ fn read_by(bytes: &mut [u8], list: &mut [u32]) -> usize
 pub fn read_words(list: &mut [u32]) -> usize
     ensures { result ≤ length list.new }
 {
-    if 2048 < list.len() {
+    if MOST < list.len() {
         return 0;
     }
     let mut bytes = [0u8; 8192];
@@ -31,42 +43,75 @@ pub fn read_words(list: &mut [u32]) -> usize
     read_by(&mut bytes[..n], list)
 }
 
-// Fills the codes and the schedules from the input, and the second two with the same from the last to the first; false where the input ends first, or there
-// are more places than a list has pairs. Which pairs they are is left open.
+// Fills all places with the next words of the input. Which words they are is left open.
+pub fn read_list(list: &mut [u32]) -> Result<(), ReadError>
+    ensures too_long { IsErrOf result ReadError.TooLong ↔ (2048 < length list.old) }
+{
+    if list.len() > MOST {
+        return Err(ReadError::TooLong);
+    }
+    if read_words(list) < list.len() {
+        return Err(ReadError::Ended);
+    }
+    Ok(())
+}
+
+// Fills the codes and the schedules from the input, and the second two with the same from the last to the first. Which pairs they are is left open.
 pub fn read_both_orders(
     codes: &mut [u32],
     schedules: &mut [u32],
     codes2: &mut [u32],
     schedules2: &mut [u32],
-) -> bool
+) -> Result<(), ReadError>
     requires { (length codes2.old ≡ length codes.old) × (length schedules2.old ≡ length schedules.old) }
-    ensures { result ≡ true → BothOrders codes.new schedules.new codes2.new schedules2.new }
+    ensures { OnOk result (BothOrders codes.new schedules.new codes2.new schedules2.new) }
 {
-    if read_words(codes) < codes.len() {
-        return false;
-    }
-    if read_words(schedules) < schedules.len() {
-        return false;
-    }
+    read_list(codes)?;
+    read_list(schedules)?;
     reverse(codes, codes2);
     reverse(schedules, schedules2);
-    true
+    Ok(())
 }
 
-// A field of a line; a space parts it from the one before, where the line is begun.
-fn print_field(begun: bool, x: u64) {
-    if begun {
-        io::write_all(1, b" ");
+// Reads the next list of the input, which has n pairs, and builds it twice: in its order and in the reverse.
+pub fn build_both<F: Fn(&[u32], &[u32])>(n: usize, build: F) -> Result<(), ReadError>
+    requires { F.IsAlwaysCallable build }
+    ensures built { OnOk result (BuiltBoth F.Fn build n) }
+    ensures too_long { 2048 < n → IsErrOf result ReadError.TooLong }
+{
+    if n > MOST {
+        return Err(ReadError::TooLong);
     }
-    io::print_decimal(1, x);
+    let mut codes = [0u32; MOST];
+    let mut schedules = [0u32; MOST];
+    let mut codes2 = [0u32; MOST];
+    let mut schedules2 = [0u32; MOST];
+    read_both_orders(
+        &mut codes[..n],
+        &mut schedules[..n],
+        &mut codes2[..n],
+        &mut schedules2[..n],
+    )?;
+    build(&codes[..n], &schedules[..n]);
+    build(&codes2[..n], &schedules2[..n]);
+    Ok(())
 }
 
-fn print_fields(begun: bool, numbers: &[u32]) {
-    let mut i: usize = 0;
-    while i < numbers.len() {
-        print_field(begun || 0 < i, wide(numbers[i]) as u64);
-        i = i + 1;
+// Runs the cases of the input, up to the first that is none, whose error it answers: an input of more cases than this is left there.
+pub fn each_case<E: Copy, F: Fn() -> Result<(), E>>(next: F) -> Result<(), E>
+    requires { F.IsAlwaysCallable next }
+    ensures { F.post next result }
+{
+    for _ in 1..1000000 {
+        next()?;
     }
+    next()
+}
+
+// A field of a line, after a space.
+pub fn print_field<T: Into<u64>>(x: T) {
+    io::write_all(1, b" ");
+    io::print_decimal(1, x.into());
 }
 
 // Prints the line of a table: the numbers before it, then all its words where the list is short, otherwise n, c, k, the total and a digest of all words.
@@ -77,14 +122,17 @@ pub fn print_table(before: &[u32], words: &[u32]) -> bool
     if words.len() < 3 {
         return false;
     }
-    let begun = 0 < before.len();
-    print_fields(false, before);
-    if words[0] <= SHORT {
-        print_fields(begun, words);
-    } else {
-        print_fields(begun, &words[..3]);
-        print_field(true, words.len() as u64);
-        print_field(true, digests::digest_words(words));
+    let short = words[0] <= SHORT;
+    let shown = if short { words } else { &words[..3] };
+    for (i, number) in before.iter().chain(shown).enumerate() {
+        if 0 < i {
+            io::write_all(1, b" ");
+        }
+        io::print_decimal(1, u64::from(*number));
+    }
+    if !short {
+        print_field(words.len() as u64);
+        print_field(digest(words));
     }
     io::write_all(1, b"\n");
     true

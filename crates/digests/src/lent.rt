@@ -6,10 +6,10 @@ ghost use Rattle.digests.specs.Lent.{counted_from, turned};
 pub fn count_from(first: u32, words: &mut [u32])
     ensures { words.new ≡ counted_from first (length words.old) }
 {
-    let mut i: usize = 0;
-    while i < words.len() {
-        words[i] = ((first as usize + i) % 4294967296) as u32;
-        i = i + 1;
+    let mut next = first;
+    for word in words.iter_mut() {
+        *word = next;
+        next = next.wrapping_add(1);
     }
 }
 
@@ -18,9 +18,6 @@ pub fn reverse(list: &[u32], places: &mut [u32])
     requires { length places.old ≡ length list.now }
     ensures { places.new ≡ turned list.now }
 {
-    let mut j: usize = 0;
-    while j < list.len() {
-        places[j] = list[list.len() - 1 - j];
-        j = j + 1;
-    }
+    places.copy_from_slice(list);
+    places.reverse();
 }

@@ -1,33 +1,18 @@
 // What the programs that compare share: memory as they lend it, and digests of it: one number for all words, or all bytes, of a slice.
 #![tactic(auto)]
 
-ghost use Rattle.std.specs.Prelude.{◌≡◌};
-ghost use Rattle.digests.specs.Digest.{digest_of};
+ghost use Rattle.digests.specs.Digest.{Digested};
 
 pub mod lent;
 
-// The digest of the words, first to last.
-pub fn digest_words(words: &[u32]) -> u64
-    ensures { result ≡ digest_of words.now }
+// The digest of words or bytes, first to last: bytes have that of words of the same numbers.
+pub fn digest<T: Copy + Into<u32>>(numbers: &[T]) -> u64
+    ensures { Digested T.converts numbers.now result }
 {
     let mut d: u64 = 0;
-    let mut i: usize = 0;
-    while i < words.len() {
-        d = (d * 65599 + (words[i] as u64) + 1) % 4294967291;
-        i = i + 1;
+    for number in numbers {
+        let x: u32 = (*number).into();
+        d = (d * 65599 + u64::from(x) + 1) % 4294967291;
     }
     d
-}
-
-// The digest of the bytes, first to last: that of words of the same numbers.
-pub fn digest_bytes(bytes: &[u8]) -> u64
-    ensures { result ≡ digest_of bytes.now }
-{
-    let mut sum: u64 = 0;
-    let mut at: usize = 0;
-    while at < bytes.len() {
-        sum = (sum * 65599 + (bytes[at] as u64) + 1) % 4294967291;
-        at = at + 1;
-    }
-    sum
 }
