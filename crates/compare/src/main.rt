@@ -3,17 +3,15 @@
 // n schedules, four bytes each, least first.
 #![tactic(auto)]
 
-use comparing::{ReadError, build_both, each_case, print_table, read_list};
+use comparing::{ReadError, build_both, built_table, each_case, print_table, read_list};
 use prelude::numbers::wide;
 
 fn build_and_print(codes: &[u32], schedules: &[u32]) {
     let mut words = [0u32; 16384];
     let answer = glass_c::glass_build(codes, schedules, &mut words);
-    let total = wide(answer.value);
-    if answer.number != 0 || words.len() < total {
-        return;
+    if let Some(table) = built_table(answer, &words) {
+        print_table(&[], table);
     }
-    print_table(&[], &words[..total]);
 }
 
 // The next list; an error at the end of the input.

@@ -1,11 +1,13 @@
 // What the programs that compare share: words and lists from the input, and the fields and lines that are printed.
 #![tactic(auto)]
 
-ghost use Rattle.std.specs.Prelude.{◌≤◌, ◌<◌, ◌↔◌, ◌≡◌, leb, length, OnOk, IsErrOf};
+ghost use Rattle.std.specs.Prelude.{◌≤◌, ◌<◌, ◌↔◌, ◌≡◌, leb, length, take, IfSome, IsSome, OnOk, IsErrOf};
 ghost use Rattle.comparing.specs.Orders.{BothOrders, BuiltBoth};
 
 use digests::digest;
 use digests::lent::reverse;
+use prelude::answers::Numbered;
+use prelude::numbers::wide;
 
 // The most pairs of a list.
 const MOST: usize = 2048;
@@ -106,6 +108,17 @@ pub fn each_case<E: Copy, F: Fn() -> Result<(), E>>(next: F) -> Result<(), E>
         next()?;
     }
     next()
+}
+
+// The words of a table that was built into these; none where the build was refused.
+pub fn built_table(answer: Numbered, words: &[u32]) -> Option<&[u32]>
+    ensures table { IfSome result (λ t. t.now ≡ take answer.value words.now) }
+    ensures variant { IsSome result ↔ ((answer.number ≡ 0) × (answer.value ≤ length words.now)) }
+{
+    if answer.number != 0 {
+        return None;
+    }
+    words.get(..wide(answer.value))
 }
 
 // A field of a line, after a space.
