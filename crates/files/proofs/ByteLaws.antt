@@ -5,8 +5,8 @@ use mathlib.Core.Path.{◌≡◌, refl, sym, ◌∙◌}
 use native.Mathlib.Nat.{div-div-eq-div-mul, mod-add-div, mod-eq_of_lt, min-le_left, min-le_right}
 use native.Mathlib.Numerals.{add-one}
 use native.Mathlib.Omega.{arith}
-use lib.ListN.{length, get_or, take, drop, set, length-take, length-append, length-drop}
-use lib.Seq.{take-length, take_all, take_at, take-suc, drop-append-add, drop-drop, get_or-take, length-take-le, sets-eq}
+use lib.ListN.{length, get_or, take, drop, length-take, length-append, length-drop}
+use lib.Seq.{take-length, take_all, take_at, take-suc, drop-append-add, drop-drop, get_or-take, length-take-le}
 use Rattle.prelude.specs.Answers.{over}
 use Rattle.files.specs.Bytes.{words_of, bytes_of, BytesFilled}
 
@@ -59,18 +59,6 @@ bytes_of_words (a ∷ b ∷ c ∷ d ∷ bytes) h e =
     let three : w / 65536 % 256 ≡ c = rw above-second (omega arith) in
     let four : w / 16777216 % 256 ≡ d = rw above-third (omega arith) in
     rw (one, two, three, four, bytes_of_words bytes (λ i l. h (suc (suc (suc (suc i)))) (omega arith)) (omega arith))
-
--- four stores, one after the other, are the bytes of a word
-pub word_stored :
-    (bytes : List ℕ) (i w : ℕ) {a b c d : ℕ} → i + 4 ≤ length bytes
-    → a ≡ w % 256 → b ≡ w / 256 % 256 → c ≡ w / 65536 % 256 → d ≡ w / 16777216 % 256
-    → set (set (set (set bytes i a) (i + 1) b) (i + 2) c) (i + 3) d ≡ take i bytes ++ (bytes_of (w ∷ []) ++ drop (i + 4) bytes)
-unfolding bytes_of
-word_stored bytes i w {a} {b} {c} {d} h p q r s =
-    let one : i + 1 ≡ suc i = omega arith in
-    let two : i + 2 ≡ suc (suc i) = omega arith in
-    let three : i + 3 ≡ suc (suc (suc i)) = omega arith in
-    rw (one, two, three, sets-eq (a ∷ b ∷ c ∷ d ∷ []) bytes i h, p, q, r, s) (append_assoc (take i bytes) _ (drop (i + 4) bytes))
 
 -- the words that fit, which are n; the bytes of the first i of them are written
 abbrev fitting : List ℕ → List ℕ → List ℕ

@@ -3,7 +3,7 @@ use Rattle.files.proofs.bytes_of.Goals as goal
 
 pub loop-done-init : goal.loop-done-init
 loop-done-init c =
-    bytes_start c.smaller-n.ensures
+    bytes_start c.min-n.ensures
 
 pub loop-done-preserved : goal.loop-done-preserved
 loop-done-preserved c =

@@ -1,11 +1,13 @@
--- `files::put_word` meets its contract: four stores, one after the other, are the bytes of the word.
-use Rattle.files.proofs.ByteLaws.{word_stored}
+-- `files::put_word` meets its contract: the bytes of a word by the library are its bytes.
+use Prim.Native.Nat.{◌+◌, ◌-◌}
+use mathlib.Core.Path.{◌≡◌, refl}
+use native.Mathlib.Omega.{arith}
+use lib.Seq.{drop-drop}
+use Rattle.files.specs.Bytes.{bytes_of}
 use Rattle.files.proofs.put_word.Goals as goal
 
 pub returns : goal.returns
+unfolding bytes_of
 returns c =
-    word_stored _ _ c.args.word c.requires
-    c.least_byte.ensures
-    c.least_byte-2.ensures
-    c.least_byte-3.ensures
-    c.least_byte-4.ensures
+    let part : c.args.i + 4 - c.args.i ≡ 4 = omega arith in
+    rw (part, c.copy_from_slice.ensures.after, c.to_le_bytes.ensures, drop-drop 4 c.args.i c.args.bytes.now) refl

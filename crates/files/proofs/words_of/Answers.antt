@@ -3,7 +3,7 @@ use Rattle.files.proofs.words_of.Goals as goal
 
 pub loop-i-init : goal.loop-i-init
 loop-i-init c =
-    words_start c.smaller-n.ensures
+    words_start c.min-n.ensures
 
 pub loop-i-preserved : goal.loop-i-preserved
 loop-i-preserved c =
