@@ -3,7 +3,6 @@ use Prim.Native.Nat.{ℕ, zero, suc, ◌+◌, ◌*◌, ◌<◌, ◌≤◌}
 use mathlib.Core.List.{List, [], ◌∷◌, ◌++◌}
 use mathlib.Core.Logic.{◌⊎◌, inl, inr}
 use mathlib.Core.Path.{◌≡◌, refl, ap}
-use native.Mathlib.Nat.{zero-add}
 use native.Mathlib.Numerals.{add-one}
 use native.Mathlib.Omega.{arith}
 use lib.ListN.{length, drop, get_or, length-append}
@@ -80,9 +79,6 @@ paired_none (a ∷ codes) (s ∷ schedules) (inr h) = absurd (omega arith)
 -- of the bytes of the lines of all pairs `sum` are counted, and those of some pairs are left
 pub record Counted (pairs : List Pair) (sum : ℕ) (rest : List Pair) : Type 0 where
   pub left : (separator : ℕ) → sum + length (pair_lines separator rest) ≡ length (pair_lines separator pairs)
-
-pub counted_start : (pairs : List Pair) → Counted pairs 0 pairs
-counted_start pairs = record { left = λ separator. zero-add _ }
 
 pub counted_more :
     {pairs : List Pair} {sum : ℕ} {r : Pair} {rest : List Pair} → Counted pairs sum (r ∷ rest) → {m n : ℕ} → m ≡ length (decimal r.code)

@@ -1,9 +1,10 @@
 -- The answer of reading is that of judging the lines, and where these are right the lent places decide.
-use Prim.Native.Nat.{ℕ, ◌<◌, ◌≤◌}
+use Prim.Native.Nat.{ℕ, ◌<◌, ◌≤◌, min}
 use mathlib.Core.Bool.{false}
 use mathlib.Core.List.{List, [], ◌∷◌}
 use mathlib.Core.Logic.{◌⊎◌, inl, inr}
 use mathlib.Core.Path.{◌≡◌, refl, sym, ap, ◌∙◌}
+use native.Mathlib.Decide.{dec_lt}
 use native.Mathlib.Omega.{arith}
 use lib.ListN.{length}
 use Rattle.hash.proofs.Indicators.{true_or_false}
@@ -49,28 +50,30 @@ module _ (text : List ℕ) where
     unfolding judge_of
     counted = let g : given (lines ∷ []) ≡ given (length (lines_of text) ∷ []) = rw none_faulty at e in cc
 
-    pub fillable : (codes schedules : List ℕ) → lines ≤ length codes → lines ≤ length schedules → Fillable text lines codes schedules
-    fillable codes schedules a b =
-        record {
-          counted = counted;
-          right = (none_refused (length (lines_of text)) (faulty_line text)).0 none_faulty;
-          codes_room = omega (arith, counted);
-          schedules_room = omega (arith, counted);
-        }
+    module _ (codes schedules : List ℕ) where
+      pub read_short : min (length codes) (length schedules) < lines → ListRead text codes schedules (refused 72 lines) codes schedules
+      read_short l =
+          let few : (length codes < lines) ⊎ (length schedules < lines) =
+          elim (dec_lt (length codes) lines) [ yes c ↦ inl c | no m ↦ inr (omega arith) ] in
+          let s = short_72 text none_faulty (length codes) (length schedules) (rw counted at few) ∙ ap (refused 72) (sym counted) in
+          record { answers = sym s; codes_at_exit = rw s; schedules_at_exit = rw s }
 
-    pub read_short :
-        (codes schedules : List ℕ) → (length codes < lines) ⊎ (length schedules < lines)
-        → ListRead text codes schedules (refused 72 lines) codes schedules
-    read_short codes schedules l =
-        let s = short_72 text none_faulty (length codes) (length schedules) (rw counted at l) ∙ ap (refused 72) (sym counted) in
-        record { answers = sym s; codes_at_exit = rw s; schedules_at_exit = rw s }
+      module _ (room : lines ≤ min (length codes) (length schedules)) where
+        pub fillable : Fillable text lines codes schedules
+        fillable =
+            record {
+              counted = counted;
+              right = (none_refused (length (lines_of text)) (faulty_line text)).0 none_faulty;
+              codes_room = omega (arith, counted);
+              schedules_room = omega (arith, counted);
+            }
 
-    pub read_all :
-        {codes schedules codes' schedules' : List ℕ} → lines ≤ length codes → lines ≤ length schedules
-        → Filled text codes schedules codes' schedules' → ListRead text codes schedules (given (lines ∷ [])) codes' schedules'
-    read_all {codes} {schedules} a b f =
-        let s =
-        enough_read text none_faulty (length codes) (length schedules) (rw counted at a) (rw counted at b)
-        ∙ ap (λ (n : ℕ). given (n ∷ [])) (sym counted)
-        in
-        record { answers = sym s; codes_at_exit = rw s f.codes_at_exit; schedules_at_exit = rw s f.schedules_at_exit }
+        pub read_all :
+            {codes' schedules' : List ℕ} → Filled text codes schedules codes' schedules'
+            → ListRead text codes schedules (given (lines ∷ [])) codes' schedules'
+        read_all f =
+            let s =
+            enough_read text none_faulty (length codes) (length schedules) (omega (arith, counted)) (omega (arith, counted))
+            ∙ ap (λ (n : ℕ). given (n ∷ [])) (sym counted)
+            in
+            record { answers = sym s; codes_at_exit = rw s f.codes_at_exit; schedules_at_exit = rw s f.schedules_at_exit }

@@ -4,21 +4,19 @@ use mathlib.Core.Bool.{true}
 use mathlib.Core.List.{List, [], ◌∷◌, map}
 use mathlib.Core.Path.{◌≡◌, ap, sym, ◌∙◌}
 use native.Mathlib.Decide.{dec_lt}
-use native.Mathlib.Nat.{zero-add}
 use native.Mathlib.Numerals.{add-one}
 use native.Mathlib.Omega.{arith}
 use borrow.Author.Tests.{not-false}
-use lib.ListN.{length, get_or, drop, set, length-append, length-drop, drop_of_length-le}
+use lib.ListN.{length, get_or, drop, set, length-append, length-drop}
 use lib.Seq.{drop-cons}
-use Rattle.prelude.specs.Answers.{over}
 use Rattle.prelude.specs.Pairs.{Pair}
 use Rattle.decimal.specs.Number.{digits_in, after_digits, is_number}
 use Rattle.decimal.specs.code.Digits.{Scannable, NumberScanned}
 use Rattle.decimal.specs.declared.number.Scanned.{Scanned}
-use Rattle.decimal.proofs.Added.{SoFar, start, more, one, all, kept}
+use Rattle.decimal.proofs.Added.{SoFar, start, more, one, kept}
 use Rattle.decimal.proofs.Numbers.{digits_then, digits_few, number_most, passes_number}
 use Rattle.suppliers.specs.Text.{lines_of, after_comma, pair_of, pairs_of_text}
-use Rattle.suppliers.specs.code.Scan.{first_line, Fillable, Filled}
+use Rattle.suppliers.specs.code.Scan.{first_line, Fillable}
 use Rattle.suppliers.proofs.LineLaws.{Begun, begun, line_pair, line_length}
 use Rattle.suppliers.proofs.Places.{drop_next}
 use Rattle.suppliers.proofs.Judging.{Through, Here, through_none, here, through_end, through_more, fault_here}
@@ -50,15 +48,6 @@ left_more value text at i old now h l fits =
     (rw (drop_line (lines_of text) i h.below, h.line) at l)
     (one (value (pair_of (first_line (drop at text)))) i now fits)
 
--- nothing is left
-left_none :
-    (value : Pair → ℕ) (text : List ℕ) (i : ℕ) (old now : List ℕ) → i ≡ length (lines_of text) → Left value text i old now
-    → now ≡ over (map value (pairs_of_text text)) old
-left_none value text i old now e l =
-    let a = all (rw (drop_of_length-le (lines_of text) {i = i} (omega arith)) at l) in
-    let end : i ≡ length (map value (pairs_of_text text)) = a.place ∙ zero-add _ in
-    rw (← end) a.memory
-
 -- one line more: its numbers are words, there are places for them, and they fill these
 pub record Next (text codes schedules : List ℕ) (at i : ℕ) (codes' schedules' : List ℕ) (code schedule : Scanned) : Type 0 where
   pub code_word : code.value ≤ 4294967295
@@ -86,13 +75,6 @@ scannable text at e h =
 module _
     {text codes schedules : List ℕ} {lines : ℕ} (f : Fillable text lines codes schedules) {at i : ℕ} {codes' schedules' : List ℕ}
     (l : Filling text codes schedules at i codes' schedules') where
-  pub filling_all : i ≡ lines → Filled text codes schedules codes' schedules'
-  filling_all e =
-      record {
-        codes_at_exit = left_none _ text i codes codes' (e ∙ f.counted) l.codes_left;
-        schedules_at_exit = left_none _ text i schedules schedules' (e ∙ f.counted) l.schedules_left;
-      }
-
   -- the line from here on is that of a pair, and its pair fills the next places
   module _ (b : i < lines) where
     h : at < length text

@@ -15,7 +15,7 @@ use Rattle.std.specs.Prelude.{Option, Some, None}
 use Rattle.decimal.specs.code.Digits.{digits_end}
 use Rattle.hash.proofs.Indicators.{true_or_false}
 use Rattle.prelude.specs.Answers.{given, refused}
-use Rattle.prelude.proofs.First.{Below, below_none, below_next, first_found, first_end}
+use Rattle.prelude.proofs.First.{Below, below_next, first_found, first_end}
 use Rattle.suppliers.specs.Text.{lines_of}
 use Rattle.suppliers.specs.Lists.{faulty_line}
 use Rattle.suppliers.specs.code.Scan.{first_line, after_line, begins_line, TextEnd, line_end, judge_of}
@@ -104,9 +104,6 @@ ended text at {next} h =
 pub record Judging (text : List ℕ) (at lines : ℕ) : Type 0 where
   pub through : Through text at lines
   pub good : Below (faulty_line text) lines
-
-pub judging_none : (text : List ℕ) → Judging text 0 0
-judging_none text = record { through = through_none text; good = below_none (faulty_line text) }
 
 module _ {text : List ℕ} {at lines : ℕ} (j : Judging text at lines) where
   pub judging_all : length text ≤ at → given (lines ∷ []) ≡ judge_of text

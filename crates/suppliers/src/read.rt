@@ -37,10 +37,8 @@ pub fn read_list(text: &[u8], codes: &mut [u32], schedules: &mut [u32]) -> Resul
     ensures { ListRead text.now codes.old schedules.old (text_read_of result) codes.new schedules.new }
 {
     let lines = judge(text)?;
-    if codes.len() < lines {
-        return Err(TextError::TooManyLines(lines));
-    }
-    if schedules.len() < lines {
+    let room = codes.len().min(schedules.len());
+    if room < lines {
         return Err(TextError::TooManyLines(lines));
     }
     fill(text, lines, codes, schedules);

@@ -2,13 +2,9 @@ use mathlib.Core.Logic.{◌⊎◌, inl, inr}
 use mathlib.Core.Path.{◌≡◌}
 use native.Mathlib.Omega.{arith}
 use lib.ListN.{length}
-use Rattle.std.proofs.Common.{rules}
 use Rattle.decimal.proofs.Decimal.{decimal_few}
-use Rattle.lines.proofs.LineLaws.{counted_start, counted_more, counted_few, counted_all, paired_more, paired_none}
+use Rattle.lines.proofs.LineLaws.{counted_more, counted_few, counted_all, paired_more, paired_none}
 use Rattle.lines.proofs.pairs_length.Goals as goal
-
-pub loop-code-init : goal.loop-code-init
-loop-code-init c = search (rules, counted_start)
 
 pub overflow_add-sum : goal.overflow_add-sum
 overflow_add-sum c = omega (arith, c.decimal_length.ensures, decimal_few c.in-Some.field-0-0.now)

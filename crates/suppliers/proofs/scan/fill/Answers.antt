@@ -1,5 +1,5 @@
 use native.Mathlib.Omega.{arith}
-use Rattle.suppliers.proofs.Filling.{filling_none, filling_all, code_inside, schedule_inside, next}
+use Rattle.suppliers.proofs.Filling.{filling_none, code_inside, schedule_inside, next}
 use Rattle.suppliers.proofs.scan.fill.Goals as goal
 
 pub loop-i-init : goal.loop-i-init
@@ -23,20 +23,10 @@ overflow_cast-codes c =
     let known = next c.requires c.loop-i.invariant c.loop-i-test.true c.scan_number-code.ensures c.scan_number-schedule.ensures in
     omega (arith, known.code_word, known.schedule_word)
 
-pub bounds-codes-i : goal.bounds-codes-i
-bounds-codes-i c =
-    let known = next c.requires c.loop-i.invariant c.loop-i-test.true c.scan_number-code.ensures c.scan_number-schedule.ensures in
-    omega (arith, known.codes_room)
-
 pub overflow_cast-schedules : goal.overflow_cast-schedules
 overflow_cast-schedules c =
     let known = next c.requires c.loop-i.invariant c.loop-i-test.true c.scan_number-code.ensures c.scan_number-schedule.ensures in
     omega (arith, known.code_word, known.schedule_word)
-
-pub bounds-schedules-i : goal.bounds-schedules-i
-bounds-schedules-i c =
-    let known = next c.requires c.loop-i.invariant c.loop-i-test.true c.scan_number-code.ensures c.scan_number-schedule.ensures in
-    omega (arith, known.schedules_room)
 
 pub overflow_add-at : goal.overflow_add-at
 overflow_add-at c =
@@ -47,7 +37,3 @@ pub loop-i-preserved : goal.loop-i-preserved
 loop-i-preserved c =
     let known = next c.requires c.loop-i.invariant c.loop-i-test.true c.scan_number-code.ensures c.scan_number-schedule.ensures in
     known.filling
-
-pub returns : goal.returns
-returns c =
-    filling_all c.requires c.loop-i.invariant (omega arith)
