@@ -4,20 +4,32 @@
 ghost use Rattle.std.specs.Prelude.{◌+◌, ◌%◌, ◌≤◌, ◌≡◌};
 ghost use Rattle.prelude.specs.Limits.{most_pairs};
 ghost use Rattle.generator.specs.TestLoad.{LoadGenerated};
-ghost use Rattle.generator.specs.Generated.{generated_of};
+ghost use Rattle.generator.specs.Generated.{generated_of, generate_error_of};
 ghost use Rattle.generator.specs.code.Places.{LoadFits, LoadFilled};
 
 use hash::residue;
+use prelude::answers::{Numbered, Refusal};
 use prelude::limits::MOST_PAIRS;
+use prelude::numbers::wide;
 
-pub mod numbered;
-
-#[derive(Clone, Copy)]
-pub enum Generated {
-    // the length
-    Pairs(u32),
+// Why a load is not generated.
+#[derive(Clone, Copy, Debug, PartialEq, Eq)]
+pub enum GenerateError {
     // 73
     TooLong,
+}
+
+impl Refusal for GenerateError {
+    ghost refusal_of = { generate_error_of };
+
+    fn refusal(self) -> Numbered {
+        match self {
+            GenerateError::TooLong => Numbered {
+                number: 73,
+                value: 0,
+            },
+        }
+    }
 }
 
 // The schedule of the next place: after 999 comes 1.
@@ -38,36 +50,43 @@ fn fill(length: usize, codes: &mut [u32], schedules: &mut [u32])
 {
     let mut code: u32 = 1;
     let mut schedule: u32 = 1;
-    let mut i: usize = 0;
-    while i < length {
+    for i in 0..length {
         code = residue(65537, 75, code);
         codes[i] = code;
         schedules[i] = schedule;
         schedule = next_schedule(schedule);
-        i += 1;
     }
 }
 
 // A load of any length up to the limit.
-fn generate_for(limit: u32, length: usize, codes: &mut [u32], schedules: &mut [u32]) -> Generated
+fn generate_for(
+    limit: u32,
+    length: usize,
+    codes: &mut [u32],
+    schedules: &mut [u32],
+) -> Result<u32, GenerateError>
     ensures { LoadGenerated limit length codes.old schedules.old (generated_of result) codes.new schedules.new }
 {
-    if (limit as usize) < length {
-        return Generated::TooLong;
+    if wide(limit) < length {
+        return Err(GenerateError::TooLong);
     }
     if codes.len() < length {
-        return Generated::TooLong;
+        return Err(GenerateError::TooLong);
     }
     if schedules.len() < length {
-        return Generated::TooLong;
+        return Err(GenerateError::TooLong);
     }
     fill(length, codes, schedules);
-    Generated::Pairs(length as u32)
+    Ok(length as u32)
 }
 
 // Generates the load of this length, at most as many pairs as a build takes, into the first places of two arrays, and gives its length. Later places are
 // kept.
-pub fn generate(length: usize, codes: &mut [u32], schedules: &mut [u32]) -> Generated
+pub fn generate(
+    length: usize,
+    codes: &mut [u32],
+    schedules: &mut [u32],
+) -> Result<u32, GenerateError>
     ensures { LoadGenerated most_pairs length codes.old schedules.old (generated_of result) codes.new schedules.new }
 {
     generate_for(MOST_PAIRS, length, codes, schedules)

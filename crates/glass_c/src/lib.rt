@@ -67,5 +67,5 @@ pub fn glass_write_list(codes: &[u32], schedules: &[u32], text: &mut [u8]) -> Nu
 pub fn glass_generate(length: usize, codes: &mut [u32], schedules: &mut [u32]) -> Numbered
     ensures { GenerateShown most_pairs length codes.old schedules.old result codes.new schedules.new }
 {
-    generator::numbered::numbered(generator::generate(length, codes, schedules))
+    in_numbers(generator::generate(length, codes, schedules))
 }

@@ -4,9 +4,9 @@ use native.Mathlib.Omega.{arith}
 use Rattle.generator.proofs.Answers.{generated_none, generated_all}
 use Rattle.generator.proofs.generate_for.Goals as goal
 
-pub returns-then-limit-length : goal.returns-then-limit-length
-returns-then-limit-length c =
-    generated_none (inl c.if-limit-length.true)
+pub returns-then-wide-length : goal.returns-then-wide-length
+returns-then-wide-length c =
+    generated_none (inl (omega (arith, c.wide.ensures.value, c.if-wide-length.true)))
 
 pub returns-then-codes-length : goal.returns-then-codes-length
 returns-then-codes-length c =
@@ -18,4 +18,4 @@ returns-then-schedules-length c =
 
 pub returns : goal.returns
 returns c =
-    generated_all (omega (arith, c.if-limit-length.false)) (record { codes_room = c.if-codes-length.false; schedules_room = c.if-schedules-length.false }) c.fill.ensures
+    generated_all (omega (arith, c.wide.ensures.value, c.if-wide-length.false)) (record { codes_room = c.if-codes-length.false; schedules_room = c.if-schedules-length.false }) c.fill.ensures
