@@ -4,7 +4,7 @@ use mathlib.Core.List.{List, [], ◌∷◌, ◌++◌}
 use mathlib.Core.Path.{◌≡◌, refl, sym, ap, ◌∙◌}
 use native.Mathlib.Omega.{arith}
 use borrow.Author.Tests.{lt-ltb, le-ltb}
-use lib.ListN.{length, get_or, drop, set, drop_of_length-le}
+use lib.ListN.{length, get_or, drop, drop_of_length-le}
 use Rattle.hash.specs.Hash.{load, members, sum, cells}
 use Rattle.hash.proofs.LeastLaws.{least_unique}
 use Rattle.prelude.specs.Answers.{Answer, given, refused, filled, into_room}
@@ -21,7 +21,7 @@ use Rattle.search.specs.code.Blocks.{LeastBlocks, Blocked}
 use Rattle.search.proofs.LeastCells.{one_cell, cells_one}
 use Rattle.writer.specs.code.Grouping.{BlockOfEach, Loads}
 use Rattle.writer.specs.code.Writing.{Writable}
-use Rattle.writer.specs.code.Valid.{ValidBuilt, EmptyBuilt, one_table, OneBuilt}
+use Rattle.writer.specs.code.Valid.{ValidBuilt, KnownBuilt, EmptyBuilt, one_table, OneBuilt}
 
 -- the same cells as a part of a sum
 pub least_wide : {p k c r : ℕ} {codes : List ℕ} → LeastBlocks p codes k c → r ≡ c → LeastBlocks p codes k r
@@ -77,6 +77,14 @@ module _ {p k c : ℕ} {codes : List ℕ} (f : LeastBlocks p codes k c) where
               ∙ sym (ap (λ (r : Answer). filled r (table_of p codes schedules) words) e);
         }
 
+-- ---- a table that is known beforehand
+
+pub known_short : (table words : List ℕ) → length words < length table → KnownBuilt table words (length table) words
+known_short table words l = record { totals = refl; words_at_exit = rw (lt-ltb (length words) (length table) l) refl }
+
+pub known_written : (table words : List ℕ) → length table ≤ length words → KnownBuilt table words (length table) (table ++ drop (length table) words)
+known_written table words l = record { totals = refl; words_at_exit = rw (le-ltb (length words) (length table) l) refl }
+
 -- ---- the empty list
 
 module _ (p : ℕ) where
@@ -84,12 +92,12 @@ module _ (p : ℕ) where
   unfolding blocks_multiplier cells sum
   none_least = record { multiplier = refl; cells = refl }
 
-  pub empty_written : (words : List ℕ) → 3 ≤ length words → ValidBuilt p [] [] words 3 (set (set (set words 0 0) 1 0) 2 1)
+  pub empty_valid : {words words' : List ℕ} {total : ℕ} → KnownBuilt (0 ∷ 0 ∷ 1 ∷ []) words total words' → ValidBuilt p [] [] words total words'
   unfolding table_with front_with tabulate cells sum
-  empty_written [] l = absurd (omega arith)
-  empty_written (x ∷ []) l = absurd (omega arith)
-  empty_written (x ∷ y ∷ []) l = absurd (omega arith)
-  empty_written (x ∷ y ∷ z ∷ words) l = valid_written none_least [] (x ∷ y ∷ z ∷ words) (0 ∷ 0 ∷ 1 ∷ []) l refl
+  empty_valid {words} b =
+      let needed : words_needed p [] ≡ 3 = sym (total_is none_least) in
+      let table : table_of p [] [] ≡ 0 ∷ 0 ∷ 1 ∷ [] = sym (table_is none_least [] words) in
+      record { totals = b.totals ∙ sym needed; words_at_exit = rw (needed, table) b.words_at_exit }
 
 pub empty_built :
     {p : ℕ} {codes schedules words words' : List ℕ} {total : ℕ} → length codes ≡ 0 → length schedules ≡ length codes → EmptyBuilt words total words'
@@ -99,20 +107,8 @@ empty_built {p} {codes} {schedules} none same built =
 
 -- ---- one pair
 
-module _ (a v : ℕ) where
-  pub one_short : (words : List ℕ) → length words < 7 → OneBuilt a v words 7 words
-  one_short words l = record { totals = refl; words_at_exit = rw (lt-ltb (length words) 7 l) }
-
-  pub one_written : (words : List ℕ) → 7 ≤ length words → OneBuilt a v words 7 (set (set (set (set (set (set (set words 0 1) 1 1) 2 1) 3 0) 4 1) 5 a) 6 v)
-  one_written [] l = absurd (omega arith)
-  one_written (x₀ ∷ []) l = absurd (omega arith)
-  one_written (x₀ ∷ x₁ ∷ []) l = absurd (omega arith)
-  one_written (x₀ ∷ x₁ ∷ x₂ ∷ []) l = absurd (omega arith)
-  one_written (x₀ ∷ x₁ ∷ x₂ ∷ x₃ ∷ []) l = absurd (omega arith)
-  one_written (x₀ ∷ x₁ ∷ x₂ ∷ x₃ ∷ x₄ ∷ []) l = absurd (omega arith)
-  one_written (x₀ ∷ x₁ ∷ x₂ ∷ x₃ ∷ x₄ ∷ x₅ ∷ []) l = absurd (omega arith)
-  one_written (x₀ ∷ x₁ ∷ x₂ ∷ x₃ ∷ x₄ ∷ x₅ ∷ x₆ ∷ words) l =
-      record { totals = refl; words_at_exit = rw (le-ltb (length (x₀ ∷ x₁ ∷ x₂ ∷ x₃ ∷ x₄ ∷ x₅ ∷ x₆ ∷ words)) 7 l) }
+pub one_built : {a v : ℕ} {words words' : List ℕ} {total : ℕ} → KnownBuilt (one_table a v) words total words' → OneBuilt a v words total words'
+one_built b = record { totals = b.totals; words_at_exit = b.words_at_exit }
 
 -- the least table of its list
 module _ {p a : ℕ} (s : Searchable p (a ∷ [])) where

@@ -2,41 +2,37 @@
 ghost use Rattle.std.specs.Prelude.{◌<◌, ◌≤◌, ◌≡◌, length};
 ghost use Rattle.prelude.specs.Limits.{room};
 ghost use Rattle.search.specs.code.Searchable.{Searchable};
-ghost use Rattle.writer.specs.code.Valid.{ValidBuilt, EmptyBuilt, OneBuilt};
+ghost use Rattle.writer.specs.code.Valid.{ValidBuilt, KnownBuilt, EmptyBuilt, OneBuilt};
 
 use crate::write::{Shape, write_table};
 use prelude::limits::{FEW, ROOM};
 use prelude::numbers::wide;
 use search::blocks::blocks_multiplier;
 
+// Writes a table that is known beforehand. Gives its total; where fewer words are lent none is written.
+fn write_known<const N: usize>(table: [u32; N], words: &mut [u32]) -> u32
+    requires { N < 4294967296 }
+    ensures { KnownBuilt table.entry words.old result words.new }
+{
+    if words.len() < N {
+        return N as u32;
+    }
+    words[..N].copy_from_slice(&table);
+    N as u32
+}
+
 // Writes the table of the empty list, the same for any prime: 0 0 1. Gives 3; where fewer words are lent none is written.
 pub fn write_empty(words: &mut [u32]) -> u32
     ensures { EmptyBuilt words.old result words.new }
 {
-    if words.len() < 3 {
-        return 3;
-    }
-    words[0] = 0;
-    words[1] = 0;
-    words[2] = 1;
-    3
+    write_known([0, 0, 1], words)
 }
 
 // Writes the table of one pair, the same for any prime: every multiplier puts one code in one cell. Gives 7; where fewer words are lent none is written.
 pub fn write_one(code: u32, schedule: u32, words: &mut [u32]) -> u32
     ensures { OneBuilt code schedule words.old result words.new }
 {
-    if words.len() < 7 {
-        return 7;
-    }
-    words[0] = 1;
-    words[1] = 1;
-    words[2] = 1;
-    words[3] = 0;
-    words[4] = 1;
-    words[5] = code;
-    words[6] = schedule;
-    7
+    write_known([1, 1, 1, 0, 1, code, schedule], words)
 }
 
 // Writes the table of a list with a code, which 1 to 5 do not refuse, with a place for each code's block and for each block's load. Gives the total, which

@@ -8,7 +8,12 @@ pub record ValidBuilt (p : ℕ) (codes schedules words : List ℕ) (total : ℕ)
   pub totals : total ≡ words_needed p codes
   pub words_at_exit : words' ≡ filled (into_room 6 (words_needed p codes) (length words)) (table_of p codes schedules) words
 
--- the same of the empty list, for any prime
+-- the same of a table that is known beforehand
+pub record KnownBuilt (table words : List ℕ) (total : ℕ) (words' : List ℕ) : Type 0 where
+  pub totals : total ≡ length table
+  pub words_at_exit : words' ≡ filled (into_room 6 (length table) (length words)) table words
+
+-- the total and the words of the empty list's table, for any prime
 abbrev pub EmptyBuilt : List ℕ → ℕ → List ℕ → Type 0
 EmptyBuilt words total words' = (p : ℕ) → ValidBuilt p [] [] words total words'
 
