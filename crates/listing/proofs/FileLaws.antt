@@ -19,8 +19,7 @@ use Rattle.audit.proofs.WellFormed.{accepted_or_refused, check_exactly}
 use Rattle.decimal.specs.code.Added.{Added}
 use Rattle.listing.specs.Listing.{FileListed}
 use Rattle.listing.specs.code.Lines.{table_lines}
-use Rattle.prelude.specs.Numbers.{Shown}
-use Rattle.prelude.specs.declared.answers.Numbered.{Numbered}
+use Rattle.prelude.specs.Numbers.{number_of, value_of}
 use Rattle.audit.proofs.Answered.{refuses as refusal}
 use Rattle.prelude.proofs.Refusals.{never_both}
 use Rattle.reader.specs.ReadBack.{read_error_of}
@@ -118,16 +117,27 @@ module _
       (accepted_or_refused p limit words)
 
   pub refused_text :
-      {shown : Numbered} → ((n : ℕ) → answer ≡ given (n ∷ []) → ⊥) → Shown answer shown
-      → text_of (check_of p limit words) words ≡ refused_line shown.number shown.value
+      ((n : ℕ) → answer ≡ given (n ∷ []) → ⊥) → text_of (check_of p limit words) words ≡ refused_line (number_of answer) (value_of answer)
   unfolding text_of
-  refused_text none s =
+  refused_text none =
       ⊎_elim
       (λ g. absurd (none _ (r.answers ∙ gives ((check_exactly p limit words).0 g))))
-      (λ (number, value, g). rw (g, s.number_shown, s.value_shown, refuses g))
+      (λ (number, value, g). rw (g, refuses g))
       (accepted_or_refused p limit words)
 
 -- where reading back gives no pairs, it refuses
 pub no_pairs : (e : ReadError) (n : ℕ) → read_error_of e ≡ given (n ∷ []) → ⊥
 no_pairs (TooFewPlaces m) n h = never_both refl h
 no_pairs (Refused e) n h = never_both (refusal e).2 h
+
+-- what reading back gives of words, with a place for each code
+module _
+    {p limit : ℕ} {words codes schedules codes' schedules' : List ℕ} (a : limit ≤ length codes) (b : limit ≤ length schedules) where
+  pub listed_read :
+      {n m : ℕ} → PairsRead p limit words codes schedules (given (n ∷ [])) codes' schedules' → m ≡ n → ListedTable p limit words m codes' schedules'
+  listed_read r e = rw e (listed a b r refl)
+
+  pub refused_read :
+      (e : ReadError) → PairsRead p limit words codes schedules (read_error_of e) codes' schedules'
+      → text_of (check_of p limit words) words ≡ refused_line (number_of (read_error_of e)) (value_of (read_error_of e))
+  refused_read e r = refused_text a b r (no_pairs e)

@@ -3,16 +3,55 @@ ghost use Rattle.std.specs.Prelude.{◌+◌, ◌≤◌, ◌≡◌, length};
 ghost use Rattle.prelude.specs.Limits.{room};
 ghost use Rattle.audit.specs.Check.{check_of};
 ghost use Rattle.decimal.specs.code.Added.{Added};
-ghost use Rattle.listing.specs.Listing.{head_line, text_of, FileListed};
-ghost use Rattle.listing.specs.code.Lines.{table_lines};
+ghost use Rattle.reader.specs.ReadBack.{read_error_of};
+ghost use Rattle.listing.specs.Listing.{head_line, text_of, listing_of, FileListed};
+ghost use Rattle.listing.specs.declared.texts.FileError.TheVariants.{Refused};
+ghost use Rattle.listing.specs.code.Lines.{table_lines, file_error_of, TextOr};
 
 use decimal::put;
 use files::words_of;
 use lines::{pairs_length, put_named, put_pairs_before, put_refused};
-use prelude::answers::Refusal;
+use prelude::answers::{Numbered, Refusal};
 use prelude::limits::ROOM;
 use prelude::numbers::wide;
-use reader::pairs::pairs_for;
+use reader::pairs::{ReadError, pairs_for};
+
+// Why the table of a file is not listed.
+#[derive(Clone, Copy, Debug, PartialEq, Eq)]
+pub(crate) enum FileError {
+    // 61
+    TooLong,
+    // 62
+    NotWords,
+    // 11 to 21
+    Refused(ReadError),
+}
+
+impl From<ReadError> for FileError {
+    ghost from_gives = { λ e r. r ≡ Refused e };
+
+    fn from(e: ReadError) -> FileError {
+        FileError::Refused(e)
+    }
+}
+
+impl Refusal for FileError {
+    ghost refusal_of = { file_error_of };
+
+    fn refusal(self) -> Numbered {
+        match self {
+            FileError::TooLong => Numbered {
+                number: 61,
+                value: 0,
+            },
+            FileError::NotWords => Numbered {
+                number: 62,
+                value: 0,
+            },
+            FileError::Refused(e) => e.refusal(),
+        }
+    }
+}
 
 // The first line of a table: its sizes and its multiplier.
 fn put_head(text: &mut [u8], at: usize, n: u32, c: u32, k: u32) -> usize
@@ -36,23 +75,34 @@ fn put_table(text: &mut [u8; 65536], words: &[u32], codes: &[u32], schedules: &[
     end
 }
 
-// The text for the words of a file. A table has at most as many codes as there are places, so reading back refuses only what the check does.
-fn list_words(p: u32, limit: u32, words: &[u32], text: &mut [u8; 65536]) -> usize
+// Writes the lines of the table in these words; an error keeps the text. A table has at most as many codes as there are places, so reading back refuses only
+// what the check does.
+fn list_words(p: u32, limit: u32, words: &[u32], text: &mut [u8; 65536]) -> Result<usize, ReadError>
     requires { (1 ≤ p) × (limit ≤ room) }
-    ensures { Added (text_of (check_of p limit words.now) words.now) 0 text.old result text.new }
+    ensures { TextOr read_error_of (text_of (check_of p limit words.now) words.now) text.old result text.new }
 {
     let mut codes = [0u32; ROOM];
     let mut schedules = [0u32; ROOM];
-    match pairs_for(p, limit, words, &mut codes, &mut schedules) {
-        Ok(count) => {
-            let n = wide(count);
-            put_table(text, words, &codes[..n], &schedules[..n])
-        }
-        Err(e) => {
-            let refusal = e.refusal();
-            put_refused(text, 0, refusal.number, refusal.value)
-        }
+    let count = pairs_for(p, limit, words, &mut codes, &mut schedules)?;
+    let n = wide(count);
+    Ok(put_table(text, words, &codes[..n], &schedules[..n]))
+}
+
+// Writes the lines of the table in the bytes of a file; an error keeps the text.
+fn list_table(p: u32, limit: u32, bytes: &[u8], text: &mut [u8; 65536]) -> Result<usize, FileError>
+    requires { (1 ≤ p) × (limit ≤ room) }
+    ensures { TextOr file_error_of (listing_of p limit bytes.now) text.old result text.new }
+{
+    if 65536 < bytes.len() {
+        return Err(FileError::TooLong);
     }
+    if bytes.len() % 4 != 0 {
+        return Err(FileError::NotWords);
+    }
+    let mut words = [0u32; 16384];
+    let n = words_of(bytes, &mut words);
+    let end = list_words(p, limit, &words[..n], text)?;
+    Ok(end)
 }
 
 // The text for the bytes of a file.
@@ -60,13 +110,11 @@ pub(crate) fn list_file(p: u32, limit: u32, bytes: &[u8], text: &mut [u8; 65536]
     requires { (1 ≤ p) × (limit ≤ room) }
     ensures { FileListed p limit bytes.now text.old result text.new }
 {
-    if 65536 < bytes.len() {
-        return put_refused(text, 0, 61, 0);
+    match list_table(p, limit, bytes, text) {
+        Ok(end) => end,
+        Err(e) => {
+            let refusal = e.refusal();
+            put_refused(text, 0, refusal.number, refusal.value)
+        }
     }
-    if bytes.len() % 4 != 0 {
-        return put_refused(text, 0, 62, 0);
-    }
-    let mut words = [0u32; 16384];
-    let n = words_of(bytes, &mut words);
-    list_words(p, limit, &words[..n], text)
 }
