@@ -8,7 +8,7 @@ ghost use Rattle.lookup.specs.code.OneWord.{word_answer, cell_answer, cell_at, p
 ghost use Rattle.prelude.specs.Limits.{most_pairs};
 
 use prelude::answers::NumberedFound;
-use prelude::limits::MOST_PAIRS;
+use prelude::limits::Format;
 use prelude::numbers::{outside, wide};
 use table::words::{bad_sizes, block_end, block_multiplier, block_of, block_start, has_blocks};
 
@@ -110,28 +110,28 @@ fn block_answer(p: u32, words: &[u32], code: u32, j: usize) -> NumberedFound
     probe(p, words, code, start, end, q)
 }
 
-// The answer for any words, with the prime and the limit on the codes of a table. On a sound one a single run of tests leads to the block; which of
+// The answer for any words of a format. On a sound table a single run of tests leads to the block; which of
 // them failed is told afterwards.
 #[tactic(auto, unfolding(crate::specs::Lookup::lookup_of, crate::specs::code::OneWord::word_answer))]
-fn lookup_numbered_for(p: u32, limit: u32, words: &[u32], code: u32) -> NumberedFound
-    requires { 1 ≤ p }
-    ensures { FoundShown (lookup_of p limit words.now code) result }
+fn lookup_numbered_for(format: Format, words: &[u32], code: u32) -> NumberedFound
+    ensures { FoundShown (lookup_of format.prime format.limit words.now code) result }
 {
-    if outside(1, p - 1, code) {
+    if outside(1, format.prime - 1, code) {
         return numbered(31, 0);
     }
-    if has_blocks(p, limit, words) {
-        return block_answer(p, words, code, block_of(p, words, code));
+    if has_blocks(format, words) {
+        let j = block_of(format.prime, words, code);
+        return block_answer(format.prime, words, code, j);
     }
     if words.len() < 3 {
         return numbered(32, 0);
     }
-    numbered(select(bad_sizes(p, limit, words), 33, 1000), 0)
+    numbered(select(bad_sizes(format, words), 33, 1000), 0)
 }
 
 // What `lookup` answers, as a number, a value and a cell.
 pub fn lookup_numbered(words: &[u32], code: u32) -> NumberedFound
     ensures { FoundShown (lookup_of 65537 most_pairs words.now code) result }
 {
-    lookup_numbered_for(65537, MOST_PAIRS, words, code)
+    lookup_numbered_for(Format::product(), words, code)
 }

@@ -9,7 +9,7 @@ ghost use Rattle.lookup.specs.Found.{found_of, lookup_error_of};
 ghost use Rattle.prelude.specs.Limits.{most_pairs};
 
 use prelude::answers::{Numbered, Refusal};
-use prelude::limits::MOST_PAIRS;
+use prelude::limits::Format;
 use prelude::numbers::outside;
 use table::words::{
     bad_sizes, block_end, block_multiplier, block_of, block_start, cell_code, cell_in,
@@ -92,35 +92,38 @@ pub fn in_block(p: u32, words: &[u32], code: u32, j: usize) -> Result<Option<Fou
     in_cell(words, code, cell_in(p, words, j, code))
 }
 
-// The answer for any words, with the prime and the limit on the codes of a table.
+// The answer for any words of a format.
 #[tactic(auto, unfolding(crate::specs::Lookup::lookup_of))]
 pub fn lookup_for(
-    p: u32,
-    limit: u32,
+    format: Format,
     words: &[u32],
     code: u32,
 ) -> Result<Option<Found>, LookupError>
-    requires { 1 ≤ p }
-    ensures { found_of result ≡ lookup_of p limit words.now code }
+    ensures { found_of result ≡ lookup_of format.prime format.limit words.now code }
 {
-    if outside(1, p - 1, code) {
+    if outside(1, format.prime - 1, code) {
         return Err(LookupError::CodeOutOfRange);
     }
     if words.len() < 3 {
         return Err(LookupError::TooFewWords);
     }
-    if bad_sizes(p, limit, words) {
+    if bad_sizes(format, words) {
         return Err(LookupError::BadSizes);
     }
     if words[0] == 0 {
         return Ok(None);
     }
-    in_block(p, words, code, block_of(p, words, code))
+    in_block(
+        format.prime,
+        words,
+        code,
+        block_of(format.prime, words, code),
+    )
 }
 
 // The schedule and the cell of a code in any words: found, absent, or refused by 31 to 34. It writes nothing and relies on no earlier check.
 pub fn lookup(words: &[u32], code: u32) -> Result<Option<Found>, LookupError>
     ensures { found_of result ≡ lookup_of 65537 most_pairs words.now code }
 {
-    lookup_for(65537, MOST_PAIRS, words, code)
+    lookup_for(Format::product(), words, code)
 }

@@ -14,7 +14,7 @@ pub mod numbered;
 
 use hash::Hasher;
 use lookup::{Found, LookupError, in_block, lookup_for};
-use prelude::limits::MOST_PAIRS;
+use prelude::limits::Format;
 use prelude::numbers::{outside, some_outside, wide};
 use table::words::{has_blocks, table_hash};
 
@@ -126,17 +126,15 @@ fn walk(
     Ok(decided.found)
 }
 
-// The answer for any words, holds and codes, with the prime and the limit on the codes of a table.
+// The answer for any words of a format, and any holds and codes.
 #[tactic(auto, unfolding(crate::specs::Panel::panel_of))]
 fn panel_for(
-    p: u32,
-    limit: u32,
+    format: Format,
     words: &[u32],
     holds: &[u32],
     codes: &[u32],
 ) -> Result<Found, PanelError>
-    requires { 1 ≤ p }
-    ensures { fired_of result ≡ panel_of p limit words.now holds.now codes.now }
+    ensures { fired_of result ≡ panel_of format.prime format.limit words.now holds.now codes.now }
 {
     if codes.is_empty() {
         return Err(PanelError::NoCodes);
@@ -147,10 +145,16 @@ fn panel_for(
     if bad_holds(holds) {
         return Err(PanelError::BadHolds);
     }
-    if !has_blocks(p, limit, words) {
-        return found_at(lookup_for(p, limit, words, codes[0]), 0);
+    if !has_blocks(format, words) {
+        return found_at(lookup_for(format, words, codes[0]), 0);
     }
-    walk(table_hash(p, words), limit, words, holds, codes)
+    walk(
+        table_hash(format.prime, words),
+        format.limit,
+        words,
+        holds,
+        codes,
+    )
 }
 
 // The schedule of a panel in any words, by any holds: the one with the longest hold and its cell, unknown, or refused. It writes nothing and relies on
@@ -158,5 +162,5 @@ fn panel_for(
 pub fn panel(words: &[u32], holds: &[u32], codes: &[u32]) -> Result<Found, PanelError>
     ensures { fired_of result ≡ panel_of 65537 most_pairs words.now holds.now codes.now }
 {
-    panel_for(65537, MOST_PAIRS, words, holds, codes)
+    panel_for(Format::product(), words, holds, codes)
 }

@@ -7,6 +7,7 @@ ghost use Rattle.prelude.specs.code.Within.{Within};
 ghost use Rattle.table.specs.code.Sized.{Block, Cell, HashOf, has_blocks};
 
 use hash::Hasher;
+use prelude::limits::Format;
 use prelude::numbers::{outside, wide};
 
 // The words that the sizes call for.
@@ -39,11 +40,11 @@ pub fn too_many_cells(words: &[u32]) -> bool
 }
 
 // 14: k outside 1 to p - 1.
-pub fn bad_multiplier(p: u32, words: &[u32]) -> bool
-    requires { (1 ≤ p) × (3 ≤ length words.now) }
-    ensures { result ≡ bad_multiplier p words.now }
+pub fn bad_multiplier(format: Format, words: &[u32]) -> bool
+    requires { 3 ≤ length words.now }
+    ensures { result ≡ bad_multiplier format.prime words.now }
 {
-    outside(1, p - 1, words[2])
+    outside(1, format.prime - 1, words[2])
 }
 
 // 15: fewer words than the total.
@@ -56,17 +57,17 @@ pub fn too_short(words: &[u32]) -> bool
 
 // Any of 12 to 15.
 #[tactic(auto, unfolding(crate::specs::Sizes::bad_sizes))]
-pub fn bad_sizes(p: u32, limit: u32, words: &[u32]) -> bool
-    requires { (1 ≤ p) × (3 ≤ length words.now) }
-    ensures { result ≡ bad_sizes p limit words.now }
+pub fn bad_sizes(format: Format, words: &[u32]) -> bool
+    requires { 3 ≤ length words.now }
+    ensures { result ≡ bad_sizes format.prime format.limit words.now }
 {
-    if too_many_codes(limit, words) {
+    if too_many_codes(format.limit, words) {
         return true;
     }
     if too_many_cells(words) {
         return true;
     }
-    if bad_multiplier(p, words) {
+    if bad_multiplier(format, words) {
         return true;
     }
     too_short(words)
@@ -74,9 +75,8 @@ pub fn bad_sizes(p: u32, limit: u32, words: &[u32]) -> bool
 
 // Whether a lookup comes to a block: three words, n above 0, and none of 12 to 15.
 #[tactic(auto, unfolding(crate::specs::code::Sized::has_blocks))]
-pub fn has_blocks(p: u32, limit: u32, words: &[u32]) -> bool
-    requires { 1 ≤ p }
-    ensures { result ≡ has_blocks p limit words.now }
+pub fn has_blocks(format: Format, words: &[u32]) -> bool
+    ensures { result ≡ has_blocks format.prime format.limit words.now }
 {
     if words.len() < 3 {
         return false;
@@ -84,7 +84,7 @@ pub fn has_blocks(p: u32, limit: u32, words: &[u32]) -> bool
     if words[0] == 0 {
         return false;
     }
-    !bad_sizes(p, limit, words)
+    !bad_sizes(format, words)
 }
 
 // Where block j starts, counted in cells.

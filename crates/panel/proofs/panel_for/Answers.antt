@@ -27,7 +27,7 @@ table_hash-requires c =
 pub walk-requires-clause-hashed : goal.walk-requires-clause-hashed
 walk-requires-clause-hashed c =
     let blocks = has_blocks_lem (sym c.has_blocks.ensures ∙ c.if-not-has_blocks.false) in
-    (subst (λ (p : ℕ). WithBlocks p c.args.limit c.args.words.now) (sym c.table_hash.ensures.1) blocks, c.table_hash.ensures.0)
+    (subst (λ (p : ℕ). WithBlocks p c.args.format.limit c.args.words.now) (sym c.table_hash.ensures.1) blocks, c.table_hash.ensures.0)
 
 pub walk-requires-clause-holds_len : goal.walk-requires-clause-holds_len
 walk-requires-clause-holds_len c = ((right_holds _).0 (sym c.bad_holds.ensures ∙ c.if-bad_holds.false)).0
