@@ -15,7 +15,7 @@ use crate::places::{any_unsound, first_cell, first_unsquare};
 use crate::ranges::{first_bad_cell, first_bad_multiplier, first_bad_start};
 use hash::Hasher;
 use prelude::answers::{Numbered, Refusal};
-use prelude::limits::MOST_PAIRS;
+use prelude::limits::Format;
 use prelude::numbers::wide;
 use table::words::{bad_multiplier, table_hash, too_many_cells, too_many_codes, too_short, total};
 
@@ -114,48 +114,47 @@ fn check_places(p: u32, words: &[u32]) -> Result<Accepted, CheckError>
 }
 
 // From 16 on.
-fn check_blocks(p: u32, words: &[u32]) -> Result<Accepted, CheckError>
-    requires { (1 ≤ p) × Sized p 65536 words.now }
-    ensures { checked_of result ≡ from_starts p words.now }
+fn check_blocks(format: Format, words: &[u32]) -> Result<Accepted, CheckError>
+    requires { Sized format.prime 65536 words.now }
+    ensures { checked_of result ≡ from_starts format.prime words.now }
 {
     if let Some(block) = first_bad_start(words) {
         return Err(CheckError::BadStart(block as u32));
     }
-    if let Some(block) = first_bad_multiplier(p, words) {
+    if let Some(block) = first_bad_multiplier(format, words) {
         return Err(CheckError::BadBlockMultiplier(block as u32));
     }
-    if let Some(cell) = first_bad_cell(p, words) {
+    if let Some(cell) = first_bad_cell(format, words) {
         return Err(CheckError::BadCell(cell as u32));
     }
-    check_places(p, words)
+    check_places(format.prime, words)
 }
 
-// The check for a prime p and a limit on the codes of a table.
-pub fn check_for(p: u32, limit: u32, words: &[u32]) -> Result<Accepted, CheckError>
-    requires { (1 ≤ p) × (limit ≤ 65536) }
-    ensures { checked_of result ≡ check_of p limit words.now }
+// The check of a table of a format.
+pub fn check_for(format: Format, words: &[u32]) -> Result<Accepted, CheckError>
+    ensures { checked_of result ≡ check_of format.prime format.limit words.now }
 {
     if words.len() < 3 {
         return Err(CheckError::TooFewWords);
     }
-    if too_many_codes(limit, words) {
+    if too_many_codes(format.limit, words) {
         return Err(CheckError::TooManyCodes);
     }
     if too_many_cells(words) {
         return Err(CheckError::TooManyCells);
     }
-    if bad_multiplier(p, words) {
+    if bad_multiplier(format, words) {
         return Err(CheckError::BadMultiplier);
     }
     if too_short(words) {
         return Err(CheckError::TooShort(total(words) as u32));
     }
-    check_blocks(p, words)
+    check_blocks(format, words)
 }
 
 // The check of a table from anywhere: accepted, with n and the total, where it is well-formed; otherwise the first refusal of 11 to 21.
 pub fn check(words: &[u32]) -> Result<Accepted, CheckError>
     ensures { checked_of result ≡ check_of 65537 most_pairs words.now }
 {
-    check_for(65537, MOST_PAIRS, words)
+    check_for(Format::product(), words)
 }

@@ -7,6 +7,7 @@ ghost use Rattle.table.specs.code.Sized.{Block, Cell};
 ghost use Rattle.audit.specs.Check.{bad_start, bad_block_multiplier, bad_cell};
 ghost use Rattle.audit.specs.code.Ranges.{TestIs};
 
+use prelude::limits::Format;
 use prelude::numbers::{outside, wide};
 use table::words::{block_multiplier, block_start, cell_code, cell_schedule};
 
@@ -21,21 +22,21 @@ fn bad_start(words: &[u32], j: usize) -> bool
 }
 
 // 17: a multiplier outside 1 to p - 1.
-fn bad_block_multiplier(p: u32, words: &[u32], j: usize) -> bool
-    requires { (1 ≤ p) × Block words.now j }
-    ensures { result ≡ bad_block_multiplier p words.now j }
+fn bad_block_multiplier(format: Format, words: &[u32], j: usize) -> bool
+    requires { Block words.now j }
+    ensures { result ≡ bad_block_multiplier format.prime words.now j }
 {
-    outside(1, p - 1, block_multiplier(words, j))
+    outside(1, format.prime - 1, block_multiplier(words, j))
 }
 
 // 18: a code above p - 1, a schedule above 999, or exactly one of the two 0.
-fn bad_cell(p: u32, words: &[u32], i: usize) -> bool
-    requires { (1 ≤ p) × Cell words.now i }
-    ensures { result ≡ bad_cell p words.now i }
+fn bad_cell(format: Format, words: &[u32], i: usize) -> bool
+    requires { Cell words.now i }
+    ensures { result ≡ bad_cell format.prime words.now i }
 {
     let code = cell_code(words, i);
     let schedule = cell_schedule(words, i);
-    (p - 1 < code) | (999 < schedule) | ((code == 0) != (schedule == 0))
+    (format.prime - 1 < code) | (999 < schedule) | ((code == 0) != (schedule == 0))
 }
 
 // The first of 0 to n - 1 of which a test holds, if there is one. Number 0 is tested apart, so that no test in the first loop depends on the index.
@@ -70,17 +71,17 @@ pub(crate) fn first_bad_start(words: &[u32]) -> Option<usize>
 }
 
 // 17: the first block whose multiplier is out of range.
-pub(crate) fn first_bad_multiplier(p: u32, words: &[u32]) -> Option<usize>
-    requires { (1 ≤ p) × (total words.now ≤ length words.now) }
-    ensures { result ≡ first_where (code_count words.now) (bad_block_multiplier p words.now) }
+pub(crate) fn first_bad_multiplier(format: Format, words: &[u32]) -> Option<usize>
+    requires { total words.now ≤ length words.now }
+    ensures { result ≡ first_where (code_count words.now) (bad_block_multiplier format.prime words.now) }
 {
-    first_where(wide(words[0]), |j| bad_block_multiplier(p, words, j))
+    first_where(wide(words[0]), |j| bad_block_multiplier(format, words, j))
 }
 
 // 18: the first cell whose code and schedule are no pair, and not both 0.
-pub(crate) fn first_bad_cell(p: u32, words: &[u32]) -> Option<usize>
-    requires { (1 ≤ p) × (total words.now ≤ length words.now) }
-    ensures { result ≡ first_where (cell_count words.now) (bad_cell p words.now) }
+pub(crate) fn first_bad_cell(format: Format, words: &[u32]) -> Option<usize>
+    requires { total words.now ≤ length words.now }
+    ensures { result ≡ first_where (cell_count words.now) (bad_cell format.prime words.now) }
 {
-    first_where(wide(words[1]), |i| bad_cell(p, words, i))
+    first_where(wide(words[1]), |i| bad_cell(format, words, i))
 }

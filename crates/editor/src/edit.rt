@@ -12,7 +12,7 @@ ghost use Rattle.editor.specs.code.Editing.{InRange, PutIn, TakenOut};
 use crate::changes::{Change, count_others, write_changed};
 use audit::check::{CheckError, check_for};
 use prelude::answers::{Numbered, Refusal};
-use prelude::limits::MOST_PAIRS;
+use prelude::limits::Format;
 use prelude::numbers::{outside, wide};
 
 // Why a table is not changed.
@@ -68,21 +68,18 @@ fn rebuilt(lent: usize, total: u32) -> Result<u32, EditError>
 
 // From 53 on: a table with as many other codes as the limit is full.
 fn put_in(
-    p: u32,
-    limit: u32,
+    format: Format,
     words: &[u32],
     code: u32,
     schedule: u32,
     second: &mut [u32],
 ) -> Result<u32, EditError>
-    requires prime { Prime p }
-    requires limit_le_room { limit ≤ room }
-    requires well_formed { WellFormed p limit words.now }
-    requires in_range { InRange p code schedule }
-    ensures { PutIn p limit words.now code schedule second.old (edited_of result) second.new }
+    requires well_formed { WellFormed format.prime format.limit words.now }
+    requires in_range { InRange format.prime code schedule }
+    ensures { PutIn format.prime format.limit words.now code schedule second.old (edited_of result) second.new }
 {
     let others = count_others(words, code);
-    if others == wide(limit) {
+    if others == wide(format.limit) {
         return Err(EditError::Full);
     }
     let change = Change {
@@ -91,22 +88,19 @@ fn put_in(
         others,
     };
     let lent = second.len();
-    let total = write_changed(p, words, change, second);
+    let total = write_changed(format.prime, words, change, second);
     rebuilt(lent, total)
 }
 
 // From 55 on: a table whose codes are all others does not have the code.
 fn take_out(
-    p: u32,
-    limit: u32,
+    format: Format,
     words: &[u32],
     code: u32,
     second: &mut [u32],
 ) -> Result<u32, EditError>
-    requires prime { Prime p }
-    requires limit_le_room { limit ≤ room }
-    requires well_formed { WellFormed p limit words.now }
-    ensures { TakenOut p words.now code second.old (edited_of result) second.new }
+    requires { WellFormed format.prime format.limit words.now }
+    ensures { TakenOut format.prime words.now code second.old (edited_of result) second.new }
 {
     let others = count_others(words, code);
     if others == wide(words[0]) {
@@ -118,50 +112,44 @@ fn take_out(
         others,
     };
     let lent = second.len();
-    let total = write_changed(p, words, change, second);
+    let total = write_changed(format.prime, words, change, second);
     rebuilt(lent, total)
 }
 
-// Putting in for a prime p and a limit on the codes of a table.
+// Putting in, for a table of a format.
 fn insert_for(
-    p: u32,
-    limit: u32,
+    format: Format,
     words: &[u32],
     code: u32,
     schedule: u32,
     second: &mut [u32],
 ) -> Result<u32, EditError>
-    requires prime { Prime p }
-    requires limit_le_room { limit ≤ room }
-    ensures { Inserted p limit words.now code schedule second.old (edited_of result) second.new }
+    ensures { Inserted format.prime format.limit words.now code schedule second.old (edited_of result) second.new }
 {
-    if outside(1, p - 1, code) {
+    if outside(1, format.prime - 1, code) {
         return Err(EditError::CodeOutOfRange);
     }
     if outside(1, 999, schedule) {
         return Err(EditError::ScheduleOutOfRange);
     }
-    check_for(p, limit, words)?;
-    put_in(p, limit, words, code, schedule, second)
+    check_for(format, words)?;
+    put_in(format, words, code, schedule, second)
 }
 
-// Taking out for a prime p and a limit on the codes of a table.
+// Taking out, for a table of a format.
 fn remove_for(
-    p: u32,
-    limit: u32,
+    format: Format,
     words: &[u32],
     code: u32,
     second: &mut [u32],
 ) -> Result<u32, EditError>
-    requires prime { Prime p }
-    requires limit_le_room { limit ≤ room }
-    ensures { Removed p limit words.now code second.old (edited_of result) second.new }
+    ensures { Removed format.prime format.limit words.now code second.old (edited_of result) second.new }
 {
-    if outside(1, p - 1, code) {
+    if outside(1, format.prime - 1, code) {
         return Err(EditError::CodeOutOfRange);
     }
-    check_for(p, limit, words)?;
-    take_out(p, limit, words, code, second)
+    check_for(format, words)?;
+    take_out(format, words, code, second)
 }
 
 // Puts a code in with its schedule, in place of the one that it has. The second buffer takes what the build makes of the changed list, even
@@ -170,7 +158,7 @@ fn remove_for(
 pub fn insert(words: &[u32], code: u32, schedule: u32, second: &mut [u32]) -> Result<u32, EditError>
     ensures { Inserted 65537 most_pairs words.now code schedule second.old (edited_of result) second.new }
 {
-    insert_for(65537, MOST_PAIRS, words, code, schedule, second)
+    insert_for(Format::product(), words, code, schedule, second)
 }
 
 // Takes a code out. The second buffer takes what the build makes of the pairs that are left. Gives the new total; the words after it are kept.
@@ -178,5 +166,5 @@ pub fn insert(words: &[u32], code: u32, schedule: u32, second: &mut [u32]) -> Re
 pub fn remove(words: &[u32], code: u32, second: &mut [u32]) -> Result<u32, EditError>
     ensures { Removed 65537 most_pairs words.now code second.old (edited_of result) second.new }
 {
-    remove_for(65537, MOST_PAIRS, words, code, second)
+    remove_for(Format::product(), words, code, second)
 }

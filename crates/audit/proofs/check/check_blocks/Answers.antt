@@ -7,7 +7,7 @@ use Rattle.audit.proofs.Passing.{starts_pass, multiplier_passes, cell_passes}
 use Rattle.audit.proofs.check.check_blocks.Goals as goal
 
 pub overflow_cast-result : goal.overflow_cast-result
-overflow_cast-result c = omega (arith, c.requires.1.few_codes, (where_first _ _ (sym c.first_bad_start.ensures ∙ c.in-Some.is)).0)
+overflow_cast-result c = omega (arith, c.requires.few_codes, (where_first _ _ (sym c.first_bad_start.ensures ∙ c.in-Some.is)).0)
 
 pub returns-in-Some : goal.returns-in-Some
 unfolding from_starts
@@ -15,7 +15,7 @@ returns-in-Some c = sym (where_refused _ _ 16 _ (sym c.first_bad_start.ensures �
 
 pub overflow_cast-result-in-Some-first_bad_multiplier : goal.overflow_cast-result-in-Some-first_bad_multiplier
 overflow_cast-result-in-Some-first_bad_multiplier c =
-    omega (arith, c.requires.1.few_codes, (where_first _ _ (sym c.first_bad_multiplier.ensures ∙ c.in-Some-first_bad_multiplier.is)).0)
+    omega (arith, c.requires.few_codes, (where_first _ _ (sym c.first_bad_multiplier.ensures ∙ c.in-Some-first_bad_multiplier.is)).0)
 
 pub returns-in-Some-first_bad_multiplier : goal.returns-in-Some-first_bad_multiplier
 unfolding from_starts
@@ -37,11 +37,11 @@ returns-in-Some-first_bad_cell c =
 pub check_places-requires : goal.check_places-requires
 check_places-requires c =
     record {
-      sized = c.requires.1;
-      starts = starts_pass c.args.words.now c.requires.1.no_cells (where_passed _ _ (sym c.first_bad_start.ensures ∙ c.in_default.is));
+      sized = c.requires;
+      starts = starts_pass c.args.words.now c.requires.no_cells (where_passed _ _ (sym c.first_bad_start.ensures ∙ c.in_default.is));
       multipliers = λ j l.
-          ((multiplier_passes c.args.p c.args.words.now j c.requires.0).0 (where_passed _ _ (sym c.first_bad_multiplier.ensures ∙ c.in_default-first_bad_multiplier.is) j l)).1;
-      codes = λ i l. ((cell_passes c.args.p c.args.words.now i c.requires.0).0 (where_passed _ _ (sym c.first_bad_cell.ensures ∙ c.in_default-first_bad_cell.is) i l)).0;
+          ((multiplier_passes c.args.format.prime c.args.words.now j (omega (arith, c.args.format.is_prime.two_le))).0 (where_passed _ _ (sym c.first_bad_multiplier.ensures ∙ c.in_default-first_bad_multiplier.is) j l)).1;
+      codes = λ i l. ((cell_passes c.args.format.prime c.args.words.now i (omega (arith, c.args.format.is_prime.two_le))).0 (where_passed _ _ (sym c.first_bad_cell.ensures ∙ c.in_default-first_bad_cell.is) i l)).0;
     }
 
 pub returns : goal.returns

@@ -23,14 +23,14 @@ pub returns-then-too_many_cells : goal.returns-then-too_many_cells
 unfolding check_of
 returns-then-too_many_cells c =
     let three : ltb (length c.args.words.now) 3 ≡ false = le-ltb _ _ c.if-words-lt3.false in
-    let codes : too_many_codes c.args.limit c.args.words.now ≡ false = sym c.too_many_codes.ensures ∙ c.if-too_many_codes.false in
+    let codes : too_many_codes c.args.format.limit c.args.words.now ≡ false = sym c.too_many_codes.ensures ∙ c.if-too_many_codes.false in
     rw (three, codes, sym c.too_many_cells.ensures ∙ c.if-too_many_cells.true)
 
 pub returns-then-bad_multiplier : goal.returns-then-bad_multiplier
 unfolding check_of
 returns-then-bad_multiplier c =
     let three : ltb (length c.args.words.now) 3 ≡ false = le-ltb _ _ c.if-words-lt3.false in
-    let codes : too_many_codes c.args.limit c.args.words.now ≡ false = sym c.too_many_codes.ensures ∙ c.if-too_many_codes.false in
+    let codes : too_many_codes c.args.format.limit c.args.words.now ≡ false = sym c.too_many_codes.ensures ∙ c.if-too_many_codes.false in
     let cells : too_many_cells c.args.words.now ≡ false = sym c.too_many_cells.ensures ∙ c.if-too_many_cells.false in
     rw (three, codes, cells, sym c.bad_multiplier.ensures ∙ c.if-bad_multiplier.true)
 
@@ -38,9 +38,9 @@ pub returns-then-too_short : goal.returns-then-too_short
 unfolding check_of
 returns-then-too_short c =
     let three : ltb (length c.args.words.now) 3 ≡ false = le-ltb _ _ c.if-words-lt3.false in
-    let codes : too_many_codes c.args.limit c.args.words.now ≡ false = sym c.too_many_codes.ensures ∙ c.if-too_many_codes.false in
+    let codes : too_many_codes c.args.format.limit c.args.words.now ≡ false = sym c.too_many_codes.ensures ∙ c.if-too_many_codes.false in
     let cells : too_many_cells c.args.words.now ≡ false = sym c.too_many_cells.ensures ∙ c.if-too_many_cells.false in
-    let multiplier : bad_multiplier c.args.p c.args.words.now ≡ false = sym c.bad_multiplier.ensures ∙ c.if-bad_multiplier.false in
+    let multiplier : bad_multiplier c.args.format.prime c.args.words.now ≡ false = sym c.bad_multiplier.ensures ∙ c.if-bad_multiplier.false in
     rw (
       c.total.ensures,
       three,
@@ -54,8 +54,8 @@ pub returns : goal.returns
 unfolding check_of from_starts
 returns c =
     let three : ltb (length c.args.words.now) 3 ≡ false = le-ltb _ _ c.if-words-lt3.false in
-    let codes : too_many_codes c.args.limit c.args.words.now ≡ false = sym c.too_many_codes.ensures ∙ c.if-too_many_codes.false in
+    let codes : too_many_codes c.args.format.limit c.args.words.now ≡ false = sym c.too_many_codes.ensures ∙ c.if-too_many_codes.false in
     let cells : too_many_cells c.args.words.now ≡ false = sym c.too_many_cells.ensures ∙ c.if-too_many_cells.false in
-    let multiplier : bad_multiplier c.args.p c.args.words.now ≡ false = sym c.bad_multiplier.ensures ∙ c.if-bad_multiplier.false in
+    let multiplier : bad_multiplier c.args.format.prime c.args.words.now ≡ false = sym c.bad_multiplier.ensures ∙ c.if-bad_multiplier.false in
     rw (three, codes, cells, multiplier, sym c.too_short.ensures ∙ c.if-too_short.false)
     c.check_blocks.ensures

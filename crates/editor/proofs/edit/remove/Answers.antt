@@ -1,7 +1,0 @@
--- `editor::edit::remove` meets its contract, as `remove_for` does with the prime 65,537.
-use borrow.Author.Rules.{rules}
-use Rattle.hash.proofs.Primes.{prime_65537}
-use Rattle.editor.proofs.edit.remove.Goals as goal
-
-pub remove_for-requires : goal.remove_for-requires
-remove_for-requires c = record { prime = prime_65537; limit_le_room = search rules }
