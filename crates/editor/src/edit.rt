@@ -93,12 +93,7 @@ fn put_in(
 }
 
 // From 55 on: a table whose codes are all others does not have the code.
-fn take_out(
-    format: Format,
-    words: &[u32],
-    code: u32,
-    second: &mut [u32],
-) -> Result<u32, EditError>
+fn take_out(format: Format, words: &[u32], code: u32, second: &mut [u32]) -> Result<u32, EditError>
     requires { WellFormed format.prime format.limit words.now }
     ensures { TakenOut format.prime words.now code second.old (edited_of result) second.new }
 {

@@ -4,7 +4,7 @@
 ghost use Rattle.listing.specs.Listing.{FileListed};
 ghost use Rattle.prelude.specs.Limits.{most_pairs};
 
-use prelude::limits::MOST_PAIRS;
+use prelude::limits::Format;
 
 mod texts;
 
@@ -13,5 +13,5 @@ mod texts;
 pub fn list(bytes: &[u8], text: &mut [u8; 65536]) -> usize
     ensures { FileListed 65537 most_pairs bytes.now text.old result text.new }
 {
-    texts::list_file(65537, MOST_PAIRS, bytes, text)
+    texts::list_file(Format::product(), bytes, text)
 }

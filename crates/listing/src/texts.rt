@@ -12,7 +12,7 @@ use decimal::put;
 use files::words_of;
 use lines::{pairs_length, put_named, put_pairs_before, put_refused};
 use prelude::answers::{Numbered, Refusal};
-use prelude::limits::ROOM;
+use prelude::limits::{Format, ROOM};
 use prelude::numbers::wide;
 use reader::pairs::{ReadError, pairs_for};
 
@@ -77,21 +77,19 @@ fn put_table(text: &mut [u8; 65536], words: &[u32], codes: &[u32], schedules: &[
 
 // Writes the lines of the table in these words; an error keeps the text. A table has at most as many codes as there are places, so reading back refuses only
 // what the check does.
-fn list_words(p: u32, limit: u32, words: &[u32], text: &mut [u8; 65536]) -> Result<usize, ReadError>
-    requires { (1 ≤ p) × (limit ≤ room) }
-    ensures { TextOr read_error_of (text_of (check_of p limit words.now) words.now) text.old result text.new }
+fn list_words(format: Format, words: &[u32], text: &mut [u8; 65536]) -> Result<usize, ReadError>
+    ensures { TextOr read_error_of (text_of (check_of format.prime format.limit words.now) words.now) text.old result text.new }
 {
     let mut codes = [0u32; ROOM];
     let mut schedules = [0u32; ROOM];
-    let count = pairs_for(p, limit, words, &mut codes, &mut schedules)?;
+    let count = pairs_for(format, words, &mut codes, &mut schedules)?;
     let n = wide(count);
     Ok(put_table(text, words, &codes[..n], &schedules[..n]))
 }
 
 // Writes the lines of the table in the bytes of a file; an error keeps the text.
-fn list_table(p: u32, limit: u32, bytes: &[u8], text: &mut [u8; 65536]) -> Result<usize, FileError>
-    requires { (1 ≤ p) × (limit ≤ room) }
-    ensures { TextOr file_error_of (listing_of p limit bytes.now) text.old result text.new }
+fn list_table(format: Format, bytes: &[u8], text: &mut [u8; 65536]) -> Result<usize, FileError>
+    ensures { TextOr file_error_of (listing_of format.prime format.limit bytes.now) text.old result text.new }
 {
     if 65536 < bytes.len() {
         return Err(FileError::TooLong);
@@ -101,16 +99,15 @@ fn list_table(p: u32, limit: u32, bytes: &[u8], text: &mut [u8; 65536]) -> Resul
     }
     let mut words = [0u32; 16384];
     let n = words_of(bytes, &mut words);
-    let end = list_words(p, limit, &words[..n], text)?;
+    let end = list_words(format, &words[..n], text)?;
     Ok(end)
 }
 
 // The text for the bytes of a file.
-pub(crate) fn list_file(p: u32, limit: u32, bytes: &[u8], text: &mut [u8; 65536]) -> usize
-    requires { (1 ≤ p) × (limit ≤ room) }
-    ensures { FileListed p limit bytes.now text.old result text.new }
+pub(crate) fn list_file(format: Format, bytes: &[u8], text: &mut [u8; 65536]) -> usize
+    ensures { FileListed format.prime format.limit bytes.now text.old result text.new }
 {
-    match list_table(p, limit, bytes, text) {
+    match list_table(format, bytes, text) {
         Ok(end) => end,
         Err(e) => {
             let refusal = e.refusal();

@@ -94,11 +94,7 @@ pub fn in_block(p: u32, words: &[u32], code: u32, j: usize) -> Result<Option<Fou
 
 // The answer for any words of a format.
 #[tactic(auto, unfolding(crate::specs::Lookup::lookup_of))]
-pub fn lookup_for(
-    format: Format,
-    words: &[u32],
-    code: u32,
-) -> Result<Option<Found>, LookupError>
+pub fn lookup_for(format: Format, words: &[u32], code: u32) -> Result<Option<Found>, LookupError>
     ensures { found_of result ≡ lookup_of format.prime format.limit words.now code }
 {
     if outside(1, format.prime - 1, code) {
