@@ -3,7 +3,6 @@
 #![tactic(auto)]
 
 use prelude::answers::NumberedFound;
-use prelude::fill::fill;
 use prelude::numbers::wide;
 
 // The length of a list that can't be read: longer than any.
@@ -49,7 +48,7 @@ fn expand(runs: &[u32], holds: &mut [u32]) -> usize {
         if holds.len() - at < n {
             return NO_LIST;
         }
-        fill(&mut holds[at..at + n], runs[i + 1]);
+        holds[at..at + n].fill(runs[i + 1]);
         at = at + n;
         i = i + 2;
     }

@@ -2,6 +2,5 @@
 #![tactic(auto)]
 
 pub mod answers;
-pub mod fill;
 pub mod limits;
 pub mod numbers;

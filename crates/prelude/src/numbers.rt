@@ -1,5 +1,5 @@
 // Numbers and tests that the crates above share.
-ghost use Rattle.std.specs.Prelude.{max, ◌<◌, ◌≤◌, cond, ◌≡◌, eqb, length, get_or};
+ghost use Rattle.std.specs.Prelude.{◌≡◌, length, get_or};
 ghost use Rattle.prelude.specs.Answers.{outside, some};
 ghost use Rattle.prelude.specs.code.Within.{Within};
 
@@ -8,15 +8,6 @@ pub fn wide(x: u32) -> usize
     ensures { Within x 4294967296 result }
 {
     x as usize
-}
-
-pub fn larger(a: u32, b: u32) -> u32
-    ensures { result ≡ max a b }
-{
-    if a < b {
-        return b;
-    }
-    a
 }
 
 // x is not from low to high.
@@ -35,21 +26,4 @@ pub fn some_outside(low: u32, high: u32, list: &[u32]) -> bool
         bad = bad | outside(low, high, x);
     }
     bad
-}
-
-// 1 for true, 0 for false: a test as a number, for branch-free sums.
-pub fn one(test: bool) -> u32
-    ensures { (result ≡ cond test 1 0) × (result ≤ 1) }
-{
-    test as u32
-}
-
-// 1 for a cell that holds a code, 0 for an empty one.
-pub fn occupied(a: u32) -> usize
-    ensures { result ≡ cond (eqb a 0) 0 1 }
-{
-    if a == 0 {
-        return 0;
-    }
-    1
 }
