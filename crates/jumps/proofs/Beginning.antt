@@ -17,11 +17,6 @@ pub record Spanned (codes : List ℕ) (i low high : ℕ) : Type 0 where
   pub from_low : (j : ℕ) → j < i → low ≤ get_or codes j 0
   pub to_high : (j : ℕ) → j < i → get_or codes j 0 ≤ high
 
-pub spanned_start : (codes : List ℕ) → 0 < length codes → Spanned codes 1 (get_or codes 0 0) (get_or codes 0 0)
-spanned_start codes pos =
-    let one : (j : ℕ) → j < 1 → get_or codes j 0 ≡ get_or codes 0 0 = λ j l. ap (λ (n : ℕ). get_or codes n 0) (omega arith) in
-    record { left = omega arith; from_low = λ j l. omega (arith, one j l); to_high = λ j l. omega (arith, one j l) }
-
 pub spanned_more :
     {codes : List ℕ} {i low high l h : ℕ} → Spanned codes i low high → i < length codes → l ≡ min low (get_or codes i 0) → h ≡ max high (get_or codes i 0)
     → Spanned codes (i + 1) l h

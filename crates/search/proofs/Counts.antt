@@ -10,11 +10,11 @@ use mathlib.Core.List.{List, [], ◌∷◌}
 use mathlib.Core.Path.{◌≡◌, refl, sym, ap, ◌∙◌}
 use borrow.Author.Tests.{le-leb, lt-leb, eq-eqb, ne_eqb}
 use lib.Dec.{eqb}
-use lib.ListN.{length, get_or, drop, set, replicate, length-set, length-drop, get_or-replicate, length-replicate}
+use lib.ListN.{length, get_or, drop, set, replicate, length-set, get_or-replicate, length-replicate}
 use lib.Seq.{drop-length, get_or-set_same, get_or-set_other}
 use Rattle.hash.specs.Hash.{hash_of, load, together, cells}
 use Rattle.hash.specs.code.Contract.{Hashed}
-use Rattle.hash.proofs.Counting.{load_le, cells_is}
+use Rattle.hash.proofs.Counting.{cells_is}
 use Rattle.hash.proofs.Indicators.{indicator, indicator_eq, indicator_ne, indicator_square}
 use Rattle.prelude.specs.Limits.{room}
 use Rattle.prelude.specs.Tabulate.{tabulate}
@@ -89,9 +89,6 @@ module _
 
     l : t < length codes
     l = omega (arith, hashed.range)
-
-    pub counting_load : get_or counts t 0 ≤ length codes
-    counting_load = omega (arith, h.loads t l, load_le p k (length codes) t (drop i codes), length-drop i codes)
 
     -- the cells of its block alone are not too many: a count is a byte
     pub counting_byte : length codes ≤ room → get_or counts t 0 < 255

@@ -1,5 +1,5 @@
 -- The search for q: the cells before a trial of q, what the trial tells, and that the search ends at the least q that separates the block.
-use Prim.Native.Nat.{ℕ, ◌+◌, ◌*◌, ◌≤◌}
+use Prim.Native.Nat.{ℕ, ◌+◌, ◌≤◌}
 use native.Mathlib.Nat.{mul-le-mul_left, mul-le-mul_right}
 use native.Mathlib.Omega.{arith}
 use mathlib.Core.Bool.{Bool, true, false}
@@ -14,7 +14,6 @@ use Rattle.table.specs.TwoLevel.{cells_multiplier, held_at}
 use Rattle.prelude.proofs.Tabulate.{tabulate_length}
 use Rattle.table.proofs.Chosen.{cells_least}
 use Rattle.search.specs.code.Searchable.{Searchable}
-use Rattle.prelude.specs.Limits.{room}
 use Rattle.search.specs.code.Cells.{square, separates, filled_by, Unplaced, Placing, Tried, Separated, Untried}
 use Rattle.jumps.specs.code.Jumps.{Passed}
 use Rattle.search.proofs.Tries.{Trying, trying_start, trying_more, trying_skip, trying_found}
@@ -24,10 +23,6 @@ use Rattle.search.proofs.Places.{placing_all}
 module _ {p : ℕ} {block cells : List ℕ} (u : Unplaced p block cells) where
   pub unplaced_square : length cells ≡ square block
   unplaced_square = ap length u.zeros ∙ length-replicate {A = ℕ} (square block) 0
-
-  pub unplaced_few : length cells ≤ room * room
-  unplaced_few =
-      omega (arith, unplaced_square, mul-le-mul_left (length block) u.codes.few, mul-le-mul_right room u.codes.few)
 
   -- what a trial ends with
   module _ {w : ℕ} (is : w ≡ square block) where

@@ -49,6 +49,7 @@ pub fn blocks_multiplier(p: u32, codes: &[u32], blocks: &mut [u16], counts: &mut
     let n = codes.len() as u32;
     let h = Hasher::new(p, 1, n);
     let mut k = 1;
+    // left with what the last counting leaves: the blocks and their loads
     while k < p {
         if let Some(c) = count_cells(h.with_multiplier(k), codes, blocks, counts) {
             return Multiplier { k, c };

@@ -49,6 +49,7 @@ fn cells_multiplier(h: Hasher, block: &[u32], cells: &mut [u32]) -> u32
     ensures cells_unchanged { cells.new ≡ cells.old }
 {
     let mut q = 1;
+    // a loop of its own beside least_apart: a trial fills the cells
     while q < h.prime {
         let by = h.with_multiplier(q);
         if place_block(by, block, cells) {
