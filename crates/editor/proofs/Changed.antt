@@ -1,13 +1,13 @@
 -- The changed list of a table, and how it is listed. The pairs of the cells stand in another order than by rising code, and so do the changed ones.
-use Prim.Native.Nat.{ℕ, ◌+◌, ◌*◌, ◌-◌, ◌≤◌}
+use Prim.Native.Nat.{ℕ, ◌+◌, ◌-◌, ◌≤◌}
 use native.Mathlib.Omega.{arith}
 use mathlib.Core.Bool.{Bool}
 use mathlib.Core.List.Permᴰ
 use mathlib.Core.List.{List, [], ◌∷◌, ◌++◌, map, map-append, append_assoc, Permᴰ}
 use mathlib.Core.Path.{◌≡◌, refl, sym, ap, ◌∙◌}
 use borrow.Rule.Slice.PartMut.{mid_of, put_mid, mid_len}
-use lib.ListN.{length, get_or, set, take, drop, length-map, length-append, length-drop}
-use lib.Seq.{take_at, length-take-le}
+use lib.ListN.{length, get_or, set, take, length-map, length-append}
+use lib.Seq.{take_at}
 use Rattle.hash.proofs.Orders.{perm_length}
 use Rattle.hash.proofs.Permuted.{perm_map}
 use Rattle.std.specs.Prelude.{Option, Some, None, is_some}
@@ -21,10 +21,12 @@ use Rattle.search.specs.code.Searchable.{Searchable}
 use Rattle.writer.specs.code.Valid.{ValidBuilt, OneBuilt}
 use Rattle.writer.proofs.Totals.{one_valid}
 use Rattle.editor.specs.Edit.{without}
-use Rattle.editor.specs.code.Changes.{other_count, others, pairs_with, new_pairs, changed, Gatherable, Gathered, NewListed, Changing, Roomy, Listed, ChangedBuilt}
+use Rattle.reader.specs.code.Gathering.{other_count, others, Gatherable, Gathered}
+use Rattle.editor.specs.code.Changes.{pairs_with, new_pairs, changed, NewListed, Changing, Roomy, Listed, ChangedBuilt}
 use Rattle.editor.specs.declared.changes.Change.{Change}
 use Rattle.editor.proofs.Others.{without_perm}
-use Rattle.editor.proofs.Gathering.{others_count}
+use Rattle.reader.proofs.Gathering.{others_count}
+use Rattle.reader.proofs.Cells.{cells_from, held_from, cells_are_all, held_are_all, held_same}
 use Rattle.editor.proofs.Reordered.{codes_long, same_long, searchable_order, built_order}
 
 -- ---- the pairs of a table, by rising code and by rising cell
@@ -101,51 +103,31 @@ module _ (n m : ℕ) (list : List ℕ) where
   places_long room = mid_len n (n + m) list room ∙ omega arith
 
 module _ (words : List ℕ) (n c : ℕ) (codes_are : n ≡ code_count words) (cells_are : c ≡ cell_count words) where
-  abbrev start : ℕ
-  start = 3 + 2 * n
-
-  abbrev cells : List ℕ
-  cells = take (start + c - start) (drop start words)
-
-  abbrev held : List ℕ
-  held = take (start + c + c - (start + c)) (drop (start + c) words)
-
-  cells_are_all : cells ≡ all_codes words
-  cells_are_all = let e : start + c - start ≡ cell_count words = omega arith in rw (e, codes_are)
-
-  held_are_all : held ≡ all_schedules words
-  held_are_all = let e : start + c + c - (start + c) ≡ cell_count words = omega arith in rw (e, codes_are, cells_are)
-
-  held_same : total words ≤ length words → length (all_schedules words) ≡ length (all_codes words)
-  held_same whole =
-      length-take-le (cell_count words) (drop (3 + 2 * code_count words + cell_count words) words) (rw length-drop (omega arith))
-      ∙ sym (length-take-le (cell_count words) (drop (3 + 2 * code_count words) words) (rw length-drop (omega arith)))
-
-  pub counted : (code : ℕ) → total words ≤ length words → other_count code cells ≡ length (without code (pairs_in words))
-  unfolding others
+  pub counted : (code : ℕ) → total words ≤ length words → other_count code (cells_from words n c) ≡ length (without code (pairs_in words))
+  unfolding others without
   counted code whole =
-      ap (other_count code) cells_are_all
-      ∙ sym (others_count code (all_codes words) (all_schedules words) (held_same whole))
+      ap (other_count code) (cells_are_all words codes_are cells_are)
+      ∙ sym (others_count code (all_codes words) (all_schedules words) (held_same words whole))
       ∙ sym (perm_length (without_perm code (pairs_perm words)))
 
   others_long : {x : Change} → Changing words x → x.others ≡ length (others x.code (all_codes words) (all_schedules words))
-  unfolding others
+  unfolding others without
   others_long {x} h = h.others_are ∙ perm_length (without_perm x.code (pairs_perm words))
 
   module _ {x : Change} (h : Changing words x) {f : ℕ} {codes schedules : List ℕ} (new : NewListed x f codes schedules) (r : Roomy x codes schedules) where
-    pub gatherable : Gatherable x.code cells held (places f x.others codes) (places f x.others schedules)
+    pub gatherable : Gatherable x.code (cells_from words n c) (held_from words n c) (places f x.others codes) (places f x.others schedules)
     gatherable =
-        rw (cells_are_all, held_are_all)
+        rw (cells_are_all words codes_are cells_are, held_are_all words codes_are cells_are)
         (record {
-          same = held_same h.whole;
+          same = held_same words h.whole;
           codes_long = places_long f x.others codes (omega (arith, new.size, r.codes_long)) ∙ others_long h;
           schedules_long = places_long f x.others schedules (omega (arith, new.size, r.codes_long, r.same)) ∙ others_long h;
         })
 
-    pub listed : {part parts : List ℕ} → Gathered (others x.code cells held) part parts → Listed words x (take (f + x.others) (with_part f x.others codes part)) (take (f + x.others) (with_part f x.others schedules parts))
-    unfolding changed others
+    pub listed : {part parts : List ℕ} → Gathered (others x.code (cells_from words n c) (held_from words n c)) part parts → Listed words x (take (f + x.others) (with_part f x.others codes part)) (take (f + x.others) (with_part f x.others schedules parts))
+    unfolding changed others without
     listed g =
-        let g = rw (cells_are_all, held_are_all) at g in
+        let g = rw (cells_are_all words codes_are cells_are, held_are_all words codes_are cells_are) at g in
         record {
           codes_are = listed_column (λ (y : Pair). y.code) (new_pairs x) _ f x.others codes _ _ new.size new.codes_are (others_long h) g.codes_are;
           schedules_are =

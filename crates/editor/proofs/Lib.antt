@@ -1,7 +1,6 @@
--- In reading order: the pairs without a code, and how they are gathered from the cells of a table; the same pairs in another order; the changed list
+-- In reading order: the pairs without a code; the same pairs in another order; the changed list
 -- and its table; then the outcome of an edit, test after test.
 pub mod Others
-mod Gathering
 pub mod Reordered
 mod Changed
 pub mod Edits

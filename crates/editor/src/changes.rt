@@ -6,10 +6,12 @@ ghost use Rattle.prelude.specs.Pairs.{codes_of};
 ghost use Rattle.table.specs.Words.{total};
 ghost use Rattle.reader.specs.Pairs.{pairs_in};
 ghost use Rattle.editor.specs.Edit.{without};
-ghost use Rattle.editor.specs.code.Changes.{is_other, other_count, others, new_pairs, changed, Gatherable, Gathered, NewListed, Changing, Roomy, Listed, ChangedBuilt};
+ghost use Rattle.reader.specs.code.Gathering.{other_count};
+ghost use Rattle.editor.specs.code.Changes.{new_pairs, changed, NewListed, Changing, Roomy, Listed, ChangedBuilt};
 
 use prelude::limits::{FEW, ROOM};
 use prelude::numbers::wide;
+use reader::gather::{gather_others, is_other};
 use writer::valid::{write_empty, write_one, write_valid};
 
 // How the list is changed: the code is left out, and put in where there is a schedule for it.
@@ -19,13 +21,6 @@ pub(crate) struct Change {
     pub(crate) schedule: Option<u32>,
     // how many pairs have other codes
     pub(crate) others: usize,
-}
-
-// A cell with word a holds a code other than this one.
-fn is_other(a: u32, code: u32) -> bool
-    ensures { result ≡ is_other code a }
-{
-    (a != 0) & (a != code)
 }
 
 // How many cells hold a code other than this one.
@@ -48,24 +43,6 @@ pub(crate) fn count_others(words: &[u32], code: u32) -> usize
     let start = 3 + 2 * wide(words[0]);
     let end = start + wide(words[1]);
     wide(count_cells(&words[start..end], code))
-}
-
-// Writes the pairs of the cells that hold a code other than this one, by rising cell. There are as many as places. Every cell is stored, and
-// stays where it counts: a branch would be mispredicted.
-fn gather_others(cells: &[u32], held: &[u32], code: u32, codes: &mut [u32], schedules: &mut [u32])
-    requires { Gatherable code cells.now held.now codes.old schedules.old }
-    ensures { Gathered (others code cells.now held.now) codes.new schedules.new }
-{
-    let mut k = 0;
-    let mut i = 0;
-    // two indices: the place moves only where a cell holds such a code
-    while k < codes.len() {
-        let a = cells[i];
-        codes[k] = a;
-        schedules[k] = held[i];
-        k += usize::from(is_other(a, code));
-        i += 1;
-    }
 }
 
 // Lists the new pair first, where there is one. Gives how many are listed.

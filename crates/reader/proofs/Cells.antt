@@ -1,9 +1,9 @@
 -- The cells of a whole table, as lists of codes and schedules.
-use Prim.Native.Nat.{ℕ, ◌+◌, ◌*◌, ◌<◌, ◌≤◌}
+use Prim.Native.Nat.{ℕ, ◌+◌, ◌*◌, ◌-◌, ◌<◌, ◌≤◌}
 use mathlib.Core.List.{List}
-use mathlib.Core.Path.{◌≡◌}
+use mathlib.Core.Path.{◌≡◌, sym, ◌∙◌}
 use native.Mathlib.Omega.{arith}
-use lib.ListN.{length, get_or, drop, length-drop}
+use lib.ListN.{length, get_or, take, drop, length-drop}
 use lib.Seq.{get_or-take, get_or-drop, length-take-le}
 use Rattle.table.specs.Words.{code_count, cell_count, total, cell_code, cell_schedule}
 use Rattle.audit.specs.Check.{all_codes}
@@ -24,3 +24,21 @@ pub schedule_at : (words : List ℕ) (i : ℕ) → i < cell_count words → get_
 schedule_at words i l =
     rw (get_or-take (cell_count words) (drop (3 + 2 * code_count words + cell_count words) words) i 0 l)
     (get_or-drop (3 + 2 * code_count words + cell_count words) words i 0)
+
+module _ (words : List ℕ) where
+  pub held_same : total words ≤ length words → length (all_schedules words) ≡ length (all_codes words)
+  held_same whole = schedules_length words whole ∙ sym (codes_length words whole)
+
+  -- as the code hands them on
+  abbrev pub cells_from : ℕ → ℕ → List ℕ
+  cells_from n c = take (3 + 2 * n + c - (3 + 2 * n)) (drop (3 + 2 * n) words)
+
+  abbrev pub held_from : ℕ → ℕ → List ℕ
+  held_from n c = take (3 + 2 * n + c + c - (3 + 2 * n + c)) (drop (3 + 2 * n + c) words)
+
+  module _ {n c : ℕ} (codes_are : n ≡ code_count words) (cells_are : c ≡ cell_count words) where
+    pub cells_are_all : cells_from n c ≡ all_codes words
+    cells_are_all = let e : 3 + 2 * n + c - (3 + 2 * n) ≡ cell_count words = omega arith in rw (e, codes_are)
+
+    pub held_are_all : held_from n c ≡ all_schedules words
+    held_are_all = let e : 3 + 2 * n + c + c - (3 + 2 * n + c) ≡ cell_count words = omega arith in rw (e, codes_are, cells_are)

@@ -1,2 +1,3 @@
--- What the parts of read back write.
+-- Gathering the pairs of cells, and what the parts of read back write.
+pub mod Gathering
 pub mod Writing

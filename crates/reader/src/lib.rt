@@ -1,4 +1,5 @@
 // Reading an accepted table back.
 #![tactic(auto)]
 
+pub mod gather;
 pub mod pairs;

@@ -1,26 +1,13 @@
 -- The list that an edit makes of an old table's pairs: what the code that gathers and writes it relies on and promises.
-use Rattle.std.specs.Prelude.{ℕ, ◌+◌, ◌≤◌, Bool, cond, not, ◌&&◌, List, [], ◌∷◌, ◌++◌, ◌≡◌, eqb, length, take, Option, Some, None}
+use Rattle.std.specs.Prelude.{ℕ, ◌+◌, ◌≤◌, List, [], ◌∷◌, ◌++◌, ◌≡◌, length, take, Option, Some, None}
 use Rattle.prelude.specs.Pairs.{Pair, codes_of, schedules_of}
 use Rattle.table.specs.Words.{total}
 use Rattle.audit.specs.Check.{all_codes}
 use Rattle.reader.specs.Pairs.{all_schedules, stored, pairs_in}
+use Rattle.reader.specs.code.Gathering.{Gathered}
 use Rattle.writer.specs.code.Valid.{ValidBuilt}
 use Rattle.editor.specs.Edit.{without}
 use Rattle.editor.specs.declared.changes.Change.{Change}
-
--- a cell with word a holds a code other than this one
-abbrev pub is_other : ℕ → ℕ → Bool
-is_other code a = not (eqb a 0) && not (eqb a code)
-
--- how many cells do
-unfoldable pub other_count : ℕ → List ℕ → ℕ
-other_count code [] = 0
-other_count code (a ∷ cells) = cond (is_other code a) 1 0 + other_count code cells
-
--- the pairs of such cells, by rising cell
-unfoldable pub others : ℕ → List ℕ → List ℕ → List Pair
-unfolding without
-others code cells held = without code (stored cells held)
 
 -- the pair of a code that has a schedule
 abbrev pub pairs_with : ℕ → Option ℕ → List Pair
@@ -34,17 +21,6 @@ new_pairs x = pairs_with x.code x.schedule
 unfoldable pub changed : Change → List Pair → List Pair
 unfolding without
 changed x pairs = new_pairs x ++ without x.code pairs
-
--- two lists with a place for each such pair
-pub record Gatherable (code : ℕ) (cells held codes schedules : List ℕ) : Type 0 where
-  pub same : length held ≡ length cells
-  pub codes_long : length codes ≡ length (others code cells held)
-  pub schedules_long : length schedules ≡ length (others code cells held)
-
--- two lists hold these pairs
-pub record Gathered (pairs : List Pair) (codes schedules : List ℕ) : Type 0 where
-  pub codes_are : codes ≡ codes_of pairs
-  pub schedules_are : schedules ≡ schedules_of pairs
 
 -- two lists begin with the new pair, where there is one
 pub record NewListed (x : Change) (n : ℕ) (codes schedules : List ℕ) : Type 0 where

@@ -2,8 +2,8 @@ use Prim.Native.Nat.{◌+◌}
 use mathlib.Core.Path.{◌≡◌}
 use native.Mathlib.Omega.{arith}
 use lib.ListN.{get_or, drop}
-use Rattle.editor.specs.code.Changes.{other_count}
-use Rattle.editor.proofs.Gathering.{counts, count_le, count_from, count_end}
+use Rattle.reader.specs.code.Gathering.{other_count}
+use Rattle.reader.proofs.Gathering.{counts, count_le, count_from, count_end}
 use Rattle.editor.proofs.changes.count_cells.Goals as goal
 
 pub overflow_add-count : goal.overflow_add-count

@@ -2,7 +2,7 @@
 use Prim.Native.Nat.{◌+◌}
 use mathlib.Core.Path.{◌≡◌}
 use lib.ListN.{drop}
-use Rattle.editor.specs.code.Changes.{other_count}
+use Rattle.reader.specs.code.Gathering.{other_count}
 use Rattle.editor.proofs.changes.count_cells.Given as goal
 
 abbrev pub invariant-loop-a : goal.invariant-loop-a

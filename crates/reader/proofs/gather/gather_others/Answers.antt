@@ -1,7 +1,7 @@
 use native.Mathlib.Omega.{arith}
 use lib.ListN.{get_or}
-use Rattle.editor.proofs.Gathering.{counts, gathering_more, gathering_next}
-use Rattle.editor.proofs.changes.gather_others.Goals as goal
+use Rattle.reader.proofs.Gathering.{counts, gathering_more, gathering_next}
+use Rattle.reader.proofs.gather.gather_others.Goals as goal
 
 pub bounds-cells-i : goal.bounds-cells-i
 bounds-cells-i c = gathering_more _ c.loop-k.invariant c.loop-k-test.true
