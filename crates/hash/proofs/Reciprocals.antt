@@ -6,6 +6,8 @@ use native.Mathlib.Nat.{mod-lt, div-add-mod', mul-le-mul_left, mul-le-mul_right,
 use native.Mathlib.Decide.{dec_le}
 use native.Mathlib.Omega.{arith}
 use borrow.Author.Tests.{le-ltb, lt-ltb}
+use Rattle.std.specs.Prelude.{Option, Some}
+use Rattle.std.proofs.lemmas.Option.{none-some, same_Some}
 use Rattle.hash.specs.code.Contract.{reciprocal_of, Reciprocal, Ready}
 
 -- both bounds of the quotient q, the upper one with both sides times w
@@ -36,14 +38,21 @@ rounded_up {p} {w} pos prime places =
     }
 
 -- a precomputed reciprocal is ready for remainders
-pub ready : {p w r : ℕ} → 0 < w → r ≡ reciprocal_of p w → Ready p w r
+pub ready : {p w : ℕ} {reciprocal : Option ℕ} → 0 < w → reciprocal ≡ reciprocal_of p w → Ready p w reciprocal
 unfolding reciprocal_of
 ready {p} {w} pos e =
     elim (dec_le p 65537) [
       | yes prime ↦
           elim (dec_le w 65535) [
-            | yes places ↦ rw (e, le-ltb 65537 p prime, le-ltb 65535 w places) (record { positive = pos; exact = λ _. rounded_up pos prime (omega arith) })
-            | no many ↦ rw (e, le-ltb 65537 p prime, lt-ltb 65535 w (omega arith)) (record { positive = pos; exact = λ h. absurd (omega arith) })
+            | yes places ↦
+                rw (e, le-ltb 65537 p prime, le-ltb 65535 w places)
+                (record { positive = pos; exact = λ r is. rw (← same_Some _ r is) (rounded_up pos prime (omega arith)) })
+            | no many ↦ rw (e, le-ltb 65537 p prime, lt-ltb 65535 w (omega arith)) (record { positive = pos; exact = λ r is. absurd (none-some r is) })
           ]
-      | no large ↦ rw (e, lt-ltb 65537 p (omega arith)) (record { positive = pos; exact = λ h. absurd (omega arith) })
+      | no large ↦ rw (e, lt-ltb 65537 p (omega arith)) (record { positive = pos; exact = λ r is. absurd (none-some r is) })
     ]
+
+pub ready_quotient :
+    {p w r x y : ℕ} {reciprocal : Option ℕ} → Ready p w reciprocal → reciprocal ≡ Some r → x < p → y ≡ x
+    → y * r / 4294967296 ≡ x / w
+ready_quotient {x = x} ready is below same = rw same (quotient x ready.positive (ready.exact _ is) below)

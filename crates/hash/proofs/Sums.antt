@@ -115,6 +115,3 @@ sum_split f a zero =
 sum_split f a (suc b) =
     let e : a + suc b ≡ suc (a + b) = omega arith in
     omega (arith, ap (sum f) e, sum_split f a b)
-
-pub sum_none : (f : ℕ → ℕ) (n : ℕ) → ((i : ℕ) → i < n → f i ≡ 0) → sum f n ≡ 0
-sum_none f n none = omega (arith, sum_at_most f 0 n (λ i l. omega (arith, none i l)))

@@ -11,7 +11,7 @@ pub struct Hasher {
     pub prime: u32,
     pub multiplier: u32,
     pub places: u32,
-    pub reciprocal: u64,
+    reciprocal: Option<u64>,
     pub ghost below: { multiplier < prime },
     pub ghost ready: { Ready prime places reciprocal },
 }
@@ -49,16 +49,24 @@ impl Hasher {
     }
 
     // The place of code a, as `hash` gives it.
+    #[tactic(auto, unfolding(crate::specs::Hash::hash_of))]
     pub fn place_of(self, a: u32) -> u32
         requires { a < self.prime }
         ensures { Hashed self.prime self.multiplier self.places a result }
     {
-        remainder_by(
-            self.prime,
-            self.places,
-            self.reciprocal,
-            residue(self.prime, self.multiplier, a),
-        )
+        self.remainder(residue(self.prime, self.multiplier, a))
+    }
+
+    // x mod the places, by their reciprocal: a multiplication in place of a division.
+    fn remainder(self, x: u32) -> u32
+        requires { x < self.prime }
+        ensures { Remainder x self.places result }
+    {
+        let Some(reciprocal) = self.reciprocal else {
+            return x % self.places;
+        };
+        let quotient = (u64::from(x) * reciprocal / 4294967296) as u32;
+        x - quotient * self.places
     }
 }
 
@@ -135,34 +143,23 @@ pub fn residue(p: u32, k: u32, a: u32) -> u32
     by_division(p, x)
 }
 
-// The precomputed reciprocal of w, for many remainders of numbers below p: 2^32 / w rounded up, or 0 where w or p is too large for that.
-pub fn reciprocal(p: u32, w: u32) -> u64
+// The precomputed reciprocal of w, for many remainders of numbers below p: 2^32 / w rounded up, where w and p are small enough for that.
+#[tactic(auto, unfolding(crate::specs::code::Contract::reciprocal_of))]
+fn reciprocal(p: u32, w: u32) -> Option<u64>
     requires { 0 < w }
     ensures { result ≡ reciprocal_of p w }
 {
     if 65537 < p {
-        return 0;
+        return None;
     }
     if 65535 < w {
-        return 0;
+        return None;
     }
-    4294967295 / u64::from(w) + 1
-}
-
-// x mod w, by the reciprocal of w: a multiplication in place of a division.
-fn remainder_by(p: u32, w: u32, reciprocal: u64, x: u32) -> u32
-    requires ready { Ready p w reciprocal }
-    requires x_lt_p { x < p }
-    ensures { Remainder x w result }
-{
-    if reciprocal == 0 {
-        return x % w;
-    }
-    let quotient = (u64::from(x) * reciprocal / 4294967296) as u32;
-    x - quotient * w
+    Some(4294967295 / u64::from(w) + 1)
 }
 
 // The place of code a among w places: ((k × a) mod p) mod w.
+#[tactic(auto, unfolding(crate::specs::Hash::hash_of))]
 pub fn hash(p: u32, k: u32, w: u32, a: u32) -> u32
     requires k_lt_p { k < p }
     requires a_lt_p { a < p }

@@ -1,5 +1,5 @@
 -- What the functions of this crate answer.
-use Rattle.std.specs.Prelude.{ℕ, ◌+◌, ◌*◌, ◌/◌, ◌%◌, ◌<◌, ◌≤◌, cond, ◌≡◌, ltb}
+use Rattle.std.specs.Prelude.{ℕ, ◌+◌, ◌*◌, ◌/◌, ◌%◌, ◌<◌, ◌≤◌, cond, ◌≡◌, ltb, Option, Some, None}
 use Rattle.hash.specs.Hash.{hash_of}
 
 -- r is the remainder of x by w
@@ -12,9 +12,9 @@ pub record Hashed (p k w a r : ℕ) : Type 0 where
   pub value : r ≡ hash_of p k w a
   pub range : r < w
 
--- the precomputed reciprocal of w for numbers below p: 2 ^ 32 / w rounded up; 0 where p or w is too large for that to be exact
-unfoldable pub reciprocal_of : ℕ → ℕ → ℕ
-reciprocal_of p w = cond (ltb 65537 p) 0 (cond (ltb 65535 w) 0 (4294967295 / w + 1))
+-- the precomputed reciprocal of w for numbers below p: 2 ^ 32 / w rounded up; none where p or w is too large for that to be exact
+unfoldable pub reciprocal_of : ℕ → ℕ → Option ℕ
+reciprocal_of p w = cond (ltb 65537 p) None (cond (ltb 65535 w) None (Some (4294967295 / w + 1)))
 
 -- r divides numbers below p by w: it is 2 ^ 32 / w rounded up, and p and w are small enough for that to be exact
 pub record Reciprocal (p w r : ℕ) : Type 0 where
@@ -23,7 +23,7 @@ pub record Reciprocal (p w r : ℕ) : Type 0 where
   pub low : 4294967296 ≤ r * w
   pub high : r * w < 4294967296 + w
 
--- what a remainder by a reciprocal relies on: r is the reciprocal of w, or 0, which stands for none
-pub record Ready (p w r : ℕ) : Type 0 where
+-- what a remainder by the places relies on: there are some, and their reciprocal is one
+pub record Ready (p w : ℕ) (reciprocal : Option ℕ) : Type 0 where
   pub positive : 0 < w
-  pub exact : 0 < r → Reciprocal p w r
+  pub exact : (r : ℕ) → reciprocal ≡ Some r → Reciprocal p w r
