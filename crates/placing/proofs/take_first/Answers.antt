@@ -1,10 +1,10 @@
-use Prim.Native.Nat.{ℕ, ◌+◌, ◌-◌, ◌≤◌}
+use Prim.Native.Nat.{ℕ, ◌≤◌}
 use mathlib.Core.List.{List, append-nil}
 use mathlib.Core.Path.{◌≡◌, refl, sym, ap, ◌∙◌}
 use native.Mathlib.Nat.{zero-add}
 use native.Mathlib.Omega.{arith}
-use lib.ListN.{length, get_or, take, replicate, replicate-append-replicate, drop_of_length-le}
-use Rattle.prelude.proofs.Fills.{Filling, filling_start, filling_next, filling_more}
+use lib.ListN.{length, get_or, take, drop_of_length-le}
+use Rattle.prelude.proofs.Fills.{filling_start, filling_next, filling_more}
 use Rattle.prelude.proofs.Tabulate.{TabulatedTo, tabulate_ext, part_tabulate, tabulated_none, tabulated_more, tabulated_kept}
 use Rattle.placing.specs.code.Block.{First}
 use Rattle.placing.proofs.take_first.Goals as goal
@@ -18,14 +18,6 @@ module _ (cells old : List ℕ) (h : First (length old) cells) {i : ℕ} (end : 
       ∙ tabulate_ext _ _ (length old) (λ j l. ap (λ (x : ℕ). get_or cells x 0) (sym (zero-add j)))
       ∙ sym (part_tabulate cells 0 (length old) (omega (arith, h.some)))
 
-  emptied : {new : List ℕ} → Filling 0 cells i new → i ≤ length old → new ≡ replicate (length cells) 0
-  emptied f upto =
-      let all : i ≡ length old = omega arith in
-      let whole : length old + (length cells - length old) ≡ length cells = omega (arith, h.some) in
-      f.full
-      ∙ rw (all, h.zeros) (replicate-append-replicate {A = ℕ} (length old) (length cells - length old) 0)
-      ∙ ap (λ (n : ℕ). replicate {A = ℕ} n 0) whole
-
 pub loop-i-init : goal.loop-i-init
 loop-i-init c =
     (filling_start _ _, (tabulated_none _ _, (refl, refl)))
@@ -36,9 +28,5 @@ loop-i-preserved c =
     let next = tabulated_more c.loop-i.invariant.1.0 (omega arith) in
     (more, rw (filling_next c.loop-i.invariant.0 (omega (arith, c.requires.some))) (next, (more.same, tabulated_kept next)))
 
-pub returns : goal.returns
-returns c = record {
-  cells_after =
-      emptied c.args.cells.now c.args.first.now c.requires (omega arith) c.loop-i.invariant.0 (omega (arith, c.loop-i.invariant.1.0.room));
-  first_after = taken c.args.cells.now c.args.first.now c.requires (omega arith) c.loop-i.invariant.1.0;
-}
+pub returns-clause-first_after : goal.returns-clause-first_after
+returns-clause-first_after c = taken c.args.cells.now c.args.first.now c.requires (omega arith) c.loop-i.invariant.1.0
