@@ -1,7 +1,7 @@
 -- `placing::write_more` meets its contract: each half of the block's cells is lent by itself.
 use Prim.Native.Nat.{ℕ, ◌+◌, ◌*◌, ◌-◌, ◌<◌}
 use mathlib.Core.List.{List}
-use mathlib.Core.Path.{◌≡◌, refl, sym, ap, ◌∙◌}
+use mathlib.Core.Path.{◌≡◌, refl, sym, ◌∙◌}
 use native.Mathlib.Nat.{add-sub_cancel_left, mul-pos, mul-le-mul_left, mul-le-mul_right}
 use native.Mathlib.Omega.{arith}
 use borrow.Rule.Slice.PartMut.{put_mid, same_len_mid}
@@ -52,16 +52,6 @@ module _ {p : ℕ} {b : Block} {words : List ℕ} (g : Gathered p b words) where
         (length-take-le w (drop second half)
         (omega (arith, length-drop second half, same_len_mid b.start (b.start + w - b.start) words new back, g.enough)))
         ∙ sym (block_square g)
-
-pub move_codes-q-requires : goal.move_codes-q-requires
-move_codes-q-requires c =
-    let g = c.requires.gathered in
-    let own = c.requires.own_len.0 in
-    record {
-      first = rw own ((lent_first g).0, rw (c.new-h.ensures.prime_is, (lent_first g).1) g.searchable);
-      cells_len = (c.new-h.ensures.places_is ∙ sym (lent g), (lent g ∙ ap (λ (n : ℕ). n * n) (sym own), omega (arith, own, g.some)));
-      places_len = c.requires.own_len.1 ∙ sym own;
-    }
 
 -- its codes and their places, by the length of what was lent for them
 placed :
