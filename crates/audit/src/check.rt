@@ -1,19 +1,15 @@
 // The check of a table from anywhere (document 01, "Check"): each test over the whole table before the next. Nothing here writes.
-ghost use Rattle.std.specs.Prelude.{◌<◌, ◌≤◌, true, ◌≡◌};
-ghost use Rattle.prelude.specs.Answers.{some};
+ghost use Rattle.std.specs.Prelude.{◌<◌, ◌≡◌};
 ghost use Rattle.prelude.specs.Limits.{most_pairs};
-ghost use Rattle.table.specs.Words.{code_count};
-ghost use Rattle.table.specs.code.Sized.{Sized, HashOf};
+ghost use Rattle.table.specs.code.Sized.{Sized};
 ghost use Rattle.audit.specs.Check.{check_of};
 ghost use Rattle.audit.specs.Checked.{check_error_of, checked_of};
 ghost use Rattle.audit.specs.code.From.{from_count, from_places, from_starts};
 ghost use Rattle.audit.specs.code.Blocks.{Lined, Ranged};
-ghost use Rattle.audit.specs.code.Places.{unsound};
 
 use crate::blocks::count_codes;
 use crate::places::{any_unsound, first_cell, first_unsquare};
 use crate::ranges::{first_bad_cell, first_bad_multiplier, first_bad_start};
-use hash::Hasher;
 use prelude::answers::{Numbered, Refusal};
 use prelude::limits::Format;
 use prelude::numbers::wide;

@@ -1,8 +1,7 @@
 // Putting one code in and taking one out, into a second buffer (document 01, "Put in, take out"). The old table is read only.
-ghost use Rattle.std.specs.Prelude.{◌≤◌, ◌≡◌};
-ghost use Rattle.hash.specs.Theorems.{Prime};
+ghost use Rattle.std.specs.Prelude.{◌≡◌};
 ghost use Rattle.prelude.specs.Answers.{into_room};
-ghost use Rattle.prelude.specs.Limits.{room, most_pairs};
+ghost use Rattle.prelude.specs.Limits.{most_pairs};
 ghost use Rattle.audit.specs.WellFormed.{WellFormed};
 ghost use Rattle.editor.specs.Edit.{Inserted, Removed};
 ghost use Rattle.editor.specs.Edited.{edit_error_of, edited_of};

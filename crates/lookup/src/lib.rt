@@ -2,7 +2,7 @@
 // the code and schedule of one cell.
 #![tactic(auto)]
 
-ghost use Rattle.std.specs.Prelude.{◌<◌, ◌≤◌, ◌≡◌};
+ghost use Rattle.std.specs.Prelude.{◌<◌, ◌≡◌};
 ghost use Rattle.lookup.specs.Lookup.{in_cell, in_block, lookup_of};
 ghost use Rattle.table.specs.code.Sized.{Block, Cell};
 ghost use Rattle.lookup.specs.Found.{found_of, lookup_error_of};

@@ -1,5 +1,4 @@
 // The number, the value and the cell of each answer of a panel.
-ghost use Rattle.std.specs.Prelude.{◌≡◌};
 ghost use Rattle.panel.specs.Fired.{panel_error_of, fired_of};
 ghost use Rattle.prelude.specs.Numbers.{FoundShown};
 

@@ -1,5 +1,4 @@
 // Reading a supplier's list (document 02, Change 1). A refusal changes no place.
-ghost use Rattle.prelude.specs.Answers.{Answer};
 ghost use Rattle.suppliers.specs.Answered.{text_error_of, text_read_of};
 ghost use Rattle.suppliers.specs.Lists.{ListRead};
 

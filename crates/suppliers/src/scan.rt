@@ -1,7 +1,6 @@
 // A text line by line: a first pass judges all lines, so that nothing is written before the text is known to be one of a list; a second one fills.
-ghost use Rattle.std.specs.Prelude.{◌≡◌, length};
+ghost use Rattle.std.specs.Prelude.{◌≡◌};
 ghost use Rattle.suppliers.specs.Answered.{text_read_of};
-ghost use Rattle.suppliers.specs.Text.{lines_of};
 ghost use Rattle.suppliers.specs.code.Scan.{TextEnd, NewlineFrom, line_end, judge_of, Fillable, Filled};
 
 use crate::read::TextError;

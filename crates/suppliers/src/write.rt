@@ -1,6 +1,5 @@
 // Writing a list as a supplier does (document 02, Change 1). A refusal changes no byte.
 ghost use Rattle.std.specs.Prelude.{◌≤◌};
-ghost use Rattle.prelude.specs.Answers.{Answer};
 ghost use Rattle.prelude.specs.Limits.{most_pairs};
 ghost use Rattle.suppliers.specs.Answered.{write_error_of, text_written_of};
 ghost use Rattle.suppliers.specs.Lists.{ListWritten};
