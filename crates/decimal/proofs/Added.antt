@@ -9,6 +9,8 @@ use native.Mathlib.Omega.{arith}
 use lib.ListN.{length, take, drop, set, length-append, length-drop, take-append-drop}
 use lib.Seq.{set_split, take-append-le, take-take, take_at, drop_at, drop-drop, length-take-le}
 use Rattle.decimal.specs.code.Added.{Added}
+use Rattle.decimal.specs.code.Put.{Put}
+use Rattle.decimal.specs.declared.Text.{Text}
 
 -- one word
 pub one : (x at : ℕ) (old : List ℕ) → at < length old → Added (x ∷ []) at old (at + 1) (set old at x)
@@ -55,6 +57,9 @@ both {a} {b} {at} {old} {mid} {now} {end} {new} f s =
       fits = omega (arith, s.fits, kept f);
       memory = s.memory ∙ rw (up_to f, s.place, after f (length b)) (simp append_assoc);
     }
+
+pub both_put : {a b : List ℕ} {old now new : Text} → Put a old now → Put b now new → Put (a ++ b) old new
+both_put f s = record { same = s.same ∙ f.same; added = both f.added s.added }
 
 -- two pieces, the first before the second, which was written first
 pub before :

@@ -1,40 +1,50 @@
-// Text, written into lent bytes: each function writes from `at` on and answers where its text ends, or writes before `end` and answers where it
-// begins, and keeps every other byte.
+// Text, written into lent bytes: after the end of what is written, or, as the lines of pairs are, before `end` by a function that answers where its text
+// begins: their place then stays in a register. Every other byte is kept.
 #![tactic(auto)]
 
 ghost use Rattle.std.specs.Prelude.{◌+◌, ◌/◌, ◌%◌, ◌<◌, ◌≤◌, cond, ◌≡◌, [], ◌∷◌, leb, length};
 ghost use Rattle.decimal.specs.code.Added.{Added};
+ghost use Rattle.decimal.specs.code.Put.{Put};
 ghost use Rattle.decimal.specs.Decimal.{decimal};
 
 pub mod number;
 
-// One byte.
-pub fn put(text: &mut [u8], at: usize, byte: u8) -> usize
-    requires { at < length text.old }
-    ensures { Added (byte ∷ []) at text.old result text.new }
-{
-    text[at] = byte;
-    at + 1
+// Lent bytes, and where the text that is written into them ends.
+#[derive(Drop)]
+pub struct Text<'a> {
+    pub bytes: &'a mut [u8],
+    pub end: usize,
 }
 
-// A byte string.
-pub fn put_all(text: &mut [u8], at: usize, string: &[u8]) -> usize
-    requires { at + length string.now ≤ length text.old }
-    ensures { Added string.now at text.old result text.new }
-{
-    let end = at + string.len();
-    text[at..end].copy_from_slice(string);
-    end
-}
+impl<'a> Text<'a> {
+    // One byte.
+    pub fn put(&mut self, byte: u8)
+        requires { self.old.end < length self.old.bytes.now }
+        ensures { Put (byte ∷ []) self.old self.new }
+    {
+        self.bytes[self.end] = byte;
+        self.end += 1;
+    }
 
-// A number in decimal.
-pub fn put_decimal(text: &mut [u8], at: usize, x: u32) -> usize
-    requires { at + length (decimal x) ≤ length text.old }
-    ensures { Added (decimal x) at text.old result text.new }
-{
-    let end = at + decimal_length(x) as usize;
-    put_decimal_before(text, end, x);
-    end
+    // A byte string.
+    pub fn put_all(&mut self, string: &[u8])
+        requires { self.old.end + length string.now ≤ length self.old.bytes.now }
+        ensures { Put string.now self.old self.new }
+    {
+        let end = self.end + string.len();
+        self.bytes[self.end..end].copy_from_slice(string);
+        self.end = end;
+    }
+
+    // A number in decimal.
+    pub fn put_decimal(&mut self, x: u32)
+        requires { self.old.end + length (decimal x) ≤ length self.old.bytes.now }
+        ensures { Put (decimal x) self.old self.new }
+    {
+        let end = self.end + decimal_length(x) as usize;
+        put_decimal_before(self.bytes, end, x);
+        self.end = end;
+    }
 }
 
 // A number in decimal, from its last digits to its first, two at a time. They go to their place at once: the library's would be copied there.

@@ -1,32 +1,34 @@
-// The lines that texts are made of. Each function writes from `at` on and answers where its text ends, or writes before `end` and answers where it
-// begins, and keeps every other byte.
+// The lines that texts are made of, put after a text or written before `end`, by a function that answers where they begin. Every other byte is kept.
 #![tactic(auto)]
 
 ghost use Rattle.std.specs.Prelude.{ℕ, ◌+◌, ◌≤◌, ◌++◌, ◌≡◌, length};
 ghost use Rattle.decimal.specs.code.Added.{Added};
+ghost use Rattle.decimal.specs.code.Put.{Put};
 ghost use Rattle.decimal.specs.Decimal.{decimal};
 ghost use Rattle.prelude.specs.Pairs.{paired};
 ghost use Rattle.lines.specs.Lines.{pair_line, pair_lines, refused_line};
 
-use decimal::{decimal_length, put, put_all, put_before, put_decimal, put_decimal_before};
+use decimal::{Text, decimal_length, put_before, put_decimal_before};
 
 // A number after its name, which comes with the spaces that part it from its neighbours.
-pub fn put_named(text: &mut [u8], at: usize, name: &[u8], x: u32) -> usize
-    requires { at + length name.now + length (decimal x) ≤ length text.old }
-    ensures { Added (name.now ++ decimal x) at text.old result text.new }
+pub fn put_named(text: &mut Text, name: &[u8], x: u32)
+    requires { text.old.end + length name.now + length (decimal x) ≤ length text.old.bytes.now }
+    ensures { Put (name.now ++ decimal x) text.old text.new }
 {
-    let end = put_all(text, at, name);
-    put_decimal(text, end, x)
+    text.put_all(name);
+    text.put_decimal(x);
 }
 
 // The line of a refusal.
-pub fn put_refused(text: &mut [u8], at: usize, number: u32, value: u32) -> usize
-    requires { at + length (refused_line number value) ≤ length text.old }
-    ensures { Added (refused_line number value) at text.old result text.new }
+pub fn put_refused(bytes: &mut [u8], at: usize, number: u32, value: u32) -> usize
+    requires { at + length (refused_line number value) ≤ length bytes.old }
+    ensures { Added (refused_line number value) at bytes.old result bytes.new }
 {
-    let mid = put_named(text, at, b"refused ", number);
-    let end = put_named(text, mid, b" ", value);
-    put(text, end, b'\n')
+    let mut text = Text { bytes, end: at };
+    put_named(&mut text, b"refused ", number);
+    put_named(&mut text, b" ", value);
+    text.put(b'\n');
+    text.end
 }
 
 // The line of a code and its schedule.
