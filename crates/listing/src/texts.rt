@@ -8,7 +8,7 @@ ghost use Rattle.listing.specs.Listing.{head_line, text_of, listing_of, FileList
 ghost use Rattle.listing.specs.declared.texts.FileError.TheVariants.{Refused};
 ghost use Rattle.listing.specs.code.Lines.{table_lines, file_error_of, TextOr};
 
-use decimal::put;
+use decimal::Text;
 use files::words_of;
 use lines::{pairs_length, put_named, put_pairs_before, put_refused};
 use prelude::answers::{Numbered, Refusal};
@@ -54,14 +54,16 @@ impl Refusal for FileError {
 }
 
 // The first line of a table: its sizes and its multiplier.
-fn put_head(text: &mut [u8], at: usize, n: u32, c: u32, k: u32) -> usize
-    requires { at + length (head_line n c k) ≤ length text.old }
-    ensures { Added (head_line n c k) at text.old result text.new }
+fn put_head(bytes: &mut [u8], at: usize, n: u32, c: u32, k: u32) -> usize
+    requires { at + length (head_line n c k) ≤ length bytes.old }
+    ensures { Added (head_line n c k) at bytes.old result bytes.new }
 {
-    let codes = put_named(text, at, b"codes ", n);
-    let cells = put_named(text, codes, b" cells ", c);
-    let end = put_named(text, cells, b" multiplier ", k);
-    put(text, end, b'\n')
+    let mut text = Text { bytes, end: at };
+    put_named(&mut text, b"codes ", n);
+    put_named(&mut text, b" cells ", c);
+    put_named(&mut text, b" multiplier ", k);
+    text.put(b'\n');
+    text.end
 }
 
 // The first line of a table, and those of its pairs.
