@@ -7,6 +7,7 @@ ghost use Rattle.comparing.specs.Orders.{BothOrders, BuiltBoth};
 use digests::digest;
 use digests::lent::reverse;
 use prelude::answers::Numbered;
+use prelude::numbers::wide;
 
 // The most pairs of a list.
 const MOST: usize = 2048;
