@@ -2,50 +2,31 @@
 // the case, then the number and the value that C sees, and of a lookup or a panel the cell.
 #![tactic(auto)]
 
-ghost use Rattle.std.specs.Prelude.{◌≤◌, length};
+ghost use Rattle.std.specs.Prelude.{◌<◌, ◌≤◌, length};
 
+use comparing::print_field;
+use digests::lent::count_from;
 use prelude::answers::{Numbered, NumberedFound};
-
-fn print_field(x: u32) {
-    io::write_all(1, b" ");
-    io::print_decimal(1, x as u64);
-}
 
 fn print_case(name: &[u8], n: u32) {
     io::write_all(1, name);
-    io::print_decimal(1, n as u64);
+    io::print_decimal(1, u64::from(n));
     io::write_all(1, b":");
 }
 
 fn print_line(name: &[u8], n: u32, a: Numbered) {
-    let number = a.number;
-    let value = a.value;
     print_case(name, n);
-    print_field(number);
-    print_field(value);
+    print_field(a.number);
+    print_field(a.value);
     io::write_all(1, b"\n");
 }
 
 fn print_found(name: &[u8], n: u32, a: NumberedFound) {
-    let number = a.number;
-    let value = a.value;
-    let cell = a.cell;
     print_case(name, n);
-    print_field(number);
-    print_field(value);
-    print_field(cell);
+    print_field(a.number);
+    print_field(a.value);
+    print_field(a.cell);
     io::write_all(1, b"\n");
-}
-
-// 1, 2, 3 and so on.
-fn count_up(a: &mut [u32])
-    requires { length a.old ≤ 4096 }
-{
-    let mut i: usize = 0;
-    while i < a.len() {
-        a[i] = (i as u32) + 1;
-        i = i + 1;
-    }
 }
 
 // The list of 7 and this code.
@@ -90,7 +71,7 @@ fn panel_with(a: u32) {
     let mut words = [0u32; 15];
     ends(&mut words);
     let mut holds = [0u32; 999];
-    count_up(&mut holds);
+    count_from(1, &mut holds);
     let codes = [1, a];
     print_found(b"panel 1 ", a, glass_c::glass_panel(&words, &holds, &codes));
 }
@@ -111,18 +92,13 @@ fn number_of_holds(n: usize)
     print_found(b"holds ", n as u32, fire(&holds[..n]));
 }
 
-// The hold of schedule 1, where all others are 60 minutes.
-fn first_hold(minutes: u32) {
+// The hold of the schedule in this place, where all others are 60 minutes.
+fn one_hold(name: &[u8], place: usize, minutes: u32)
+    requires { place < 999 }
+{
     let mut holds = [60u32; 999];
-    holds[0] = minutes;
-    print_found(b"first hold ", minutes, fire(&holds));
-}
-
-// The same of schedule 999.
-fn last_hold(minutes: u32) {
-    let mut holds = [60u32; 999];
-    holds[998] = minutes;
-    print_found(b"last hold ", minutes, fire(&holds));
+    holds[place] = minutes;
+    print_found(name, minutes, fire(&holds));
 }
 
 // The table of 7 with 500.
@@ -195,7 +171,7 @@ fn panel(n: usize, words: &[u32], holds: &[u32], codes: &[u32])
 // The largest table: reached, kept by a code that it has, and no larger.
 fn largest() {
     let mut codes = [0u32; 2048];
-    count_up(&mut codes);
+    count_from(1, &mut codes);
     let schedules = [1u32; 2048];
     insert_into(2047, 2048, &codes, &schedules);
     insert_into(2048, 2048, &codes, &schedules);
@@ -204,7 +180,7 @@ fn largest() {
 
 fn lists() {
     let mut codes = [0u32; 2049];
-    count_up(&mut codes);
+    count_from(1, &mut codes);
     let schedules = [1u32; 2049];
     pairs(0, &codes, &schedules);
     pairs(2048, &codes, &schedules);
@@ -214,9 +190,9 @@ fn lists() {
 // Panels of the first codes, by holds that rise with the number.
 fn panels() {
     let mut codes = [0u32; 65];
-    count_up(&mut codes);
+    count_from(1, &mut codes);
     let mut holds = [0u32; 999];
-    count_up(&mut holds);
+    count_from(1, &mut holds);
     let mut words = [0u32; 512];
     numbered(64, &codes, &mut words);
     panel(0, &words, &holds, &codes);
@@ -226,51 +202,36 @@ fn panels() {
 }
 
 fn main() {
-    code(0);
-    code(1);
-    code(65536);
-    code(65537);
-    schedule(0);
-    schedule(1);
-    schedule(999);
-    schedule(1000);
-    lookup(0);
-    lookup(1);
-    lookup(2);
-    lookup(65536);
-    lookup(65537);
-    panel_with(0);
-    panel_with(1);
-    panel_with(2);
-    panel_with(65536);
-    panel_with(65537);
-    number_of_holds(998);
-    number_of_holds(999);
-    number_of_holds(1000);
-    first_hold(0);
-    first_hold(1);
-    first_hold(60);
-    first_hold(10080);
-    first_hold(10081);
-    last_hold(0);
-    last_hold(60);
-    last_hold(61);
-    last_hold(10080);
-    last_hold(10081);
-    last_hold(4294967295);
-    insert_code(0);
-    insert_code(1);
-    insert_code(65536);
-    insert_code(65537);
-    insert_schedule(0);
-    insert_schedule(1);
-    insert_schedule(999);
-    insert_schedule(1000);
-    remove(0);
-    remove(1);
-    remove(7);
-    remove(65536);
-    remove(65537);
+    for a in [0, 1, 65536, 65537] {
+        code(a);
+    }
+    for s in [0, 1, 999, 1000] {
+        schedule(s);
+    }
+    for a in [0, 1, 2, 65536, 65537] {
+        lookup(a);
+    }
+    for a in [0, 1, 2, 65536, 65537] {
+        panel_with(a);
+    }
+    for n in 998..=1000 {
+        number_of_holds(n);
+    }
+    for minutes in [0, 1, 60, 10080, 10081] {
+        one_hold(b"first hold ", 0, minutes);
+    }
+    for minutes in [0, 60, 61, 10080, 10081, 4294967295] {
+        one_hold(b"last hold ", 998, minutes);
+    }
+    for a in [0, 1, 65536, 65537] {
+        insert_code(a);
+    }
+    for s in [0, 1, 999, 1000] {
+        insert_schedule(s);
+    }
+    for a in [0, 1, 7, 65536, 65537] {
+        remove(a);
+    }
     largest();
     lists();
     panels();
