@@ -2,24 +2,22 @@
 use Prim.Native.Nat.{ℕ, ◌*◌, ◌/◌, ◌≤◌}
 use mathlib.Core.List.{List, [], ◌∷◌, ◌++◌}
 use mathlib.Core.Logic.{⊎_elim}
-use mathlib.Core.Path.{refl, ◌≡◌, sym, ◌∙◌}
+use mathlib.Core.Path.{◌≡◌, sym, ◌∙◌}
 use native.Mathlib.Omega.{arith}
 use borrow.Author.Tests.{ltb-false}
 use lib.Dec.{ltb}
 use lib.ListN.{length, take}
 use lib.Seq.{take_at, take_all}
-use Rattle.std.specs.Prelude.{Result, Ok, Err}
 use Rattle.prelude.specs.Answers.{Answer, given}
-use Rattle.prelude.specs.Numbers.{Shown}
+use Rattle.prelude.specs.Numbers.{number_of, value_of}
 use Rattle.table.specs.TwoLevel.{words_needed, table_of}
-use Rattle.prelude.specs.declared.answers.Numbered.{Numbered}
 use Rattle.table.proofs.Contents.{table_length}
 use Rattle.prelude.proofs.Refusals.{Refusal, GivenOrRefused, refusals_given, refusals_given_or_refused, is_given}
 use Rattle.lists.specs.List.{list_or}
 use Rattle.lists.proofs.Answered.{refuses}
 use Rattle.lists.proofs.Valid as Valid
 use Rattle.builder.specs.Build.{build_of, built_words, Built}
-use Rattle.builder.specs.Built.{built_of}
+use Rattle.builder.specs.Built.{build_error_of}
 use Rattle.builder.specs.declared.build.BuildError.{BuildError}
 use Rattle.builder.specs.declared.build.BuildError.TheVariants.{TooShort, Refused}
 use Rattle.decimal.specs.code.Added.{Added}
@@ -47,10 +45,9 @@ module _ (p limit : ℕ) (codes schedules : List ℕ) (lent : ℕ) where
       ltb-false lent (words_needed p codes) passed.1.1.1.1.1.0
 
 -- an error is no value
-pub none_built : (built : Result ℕ BuildError) → ((total : ℕ) → built ≡ Ok total → ⊥) → (n : ℕ) → built_of built ≡ given (n ∷ []) → ⊥
-none_built (Ok total) k n e = k total refl
-none_built (Err (TooShort total)) k n e = let z : ◌≡◌ {A = ℕ} 0 1 = cc in omega arith
-none_built (Err (Refused listed)) k n e = let r = refuses listed in let is = r.2 in let z : ◌≡◌ {A = ℕ} 0 1 = cc in omega arith
+pub none_built : (e : BuildError) (n : ℕ) → build_error_of e ≡ given (n ∷ []) → ⊥
+none_built (TooShort total) n e = let z : ◌≡◌ {A = ℕ} 0 1 = cc in omega arith
+none_built (Refused listed) n e = let r = refuses listed in let is = r.2 in let z : ◌≡◌ {A = ℕ} 0 1 = cc in omega arith
 
 -- ---- what it leaves
 
@@ -82,13 +79,13 @@ module _
       }
 
   pub refused_line_lem :
-      {shown : Numbered} → ((n : ℕ) → answer ≡ given (n ∷ []) → ⊥) → Shown answer shown
-      → bytes_for p codes schedules (build_of p limit codes schedules lent) ≡ refused_line shown.number shown.value
+      ((n : ℕ) → answer ≡ given (n ∷ []) → ⊥)
+      → bytes_for p codes schedules (build_of p limit codes schedules lent) ≡ refused_line (number_of answer) (value_of answer)
   unfolding bytes_for
-  refused_line_lem none s =
+  refused_line_lem none =
       ⊎_elim
       (λ g. absurd (none _ (answer_is ∙ g)))
-      (λ (number, value, g). rw (g, s.number_shown, s.value_shown, answer_is ∙ g))
+      (λ (number, value, g). let e = answer_is ∙ g in rw (g, e))
       (build_answers p limit codes schedules lent)
 
 -- as many bytes as fit are all of them

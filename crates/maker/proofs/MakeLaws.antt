@@ -12,8 +12,7 @@ use lib.Seq.{length-take-le}
 use Rattle.prelude.specs.Answers.{Answer, given, refused}
 use Rattle.prelude.specs.Pairs.{codes_of, schedules_of}
 use Rattle.table.specs.TwoLevel.{words_needed, table_of}
-use Rattle.prelude.specs.Numbers.{SizeShown}
-use Rattle.prelude.specs.declared.answers.NumberedSize.{NumberedSize}
+use Rattle.prelude.specs.Numbers.{number_of, value_of}
 use Rattle.prelude.proofs.Refusals.{GivenOrRefused}
 use Rattle.decimal.specs.code.Added.{Added}
 use Rattle.decimal.proofs.Added.{kept}
@@ -73,11 +72,10 @@ module _ (p limit : ℕ) (text : List ℕ) where
 
 module _ (p limit : ℕ) (text : List ℕ) (h : length text ≤ 65536) where
   pub refused_line_lem :
-      {answer : Answer} {shown : NumberedSize} → answer ≡ read_list_of text limit limit
-      → (number : ℕ) × (value : ℕ) × (answer ≡ refused number value) → SizeShown answer shown
-      → made_of p limit text ≡ refused_line shown.number shown.value
-  refused_line_lem answers (number, value, e) s =
-      rw (made_refused p limit text number value (not_read p limit text h (sym answers ∙ e)), s.number_shown, s.value_shown, e)
+      {answer : Answer} → answer ≡ read_list_of text limit limit → (number : ℕ) × (value : ℕ) × (answer ≡ refused number value)
+      → made_of p limit text ≡ refused_line (number_of answer) (value_of answer)
+  refused_line_lem answers (number, value, e) =
+      rw (made_refused p limit text number value (not_read p limit text h (sym answers ∙ e)), e)
 
   pub built_bytes :
       {n : ℕ} {codes schedules : List ℕ} → PairsHeld text limit n codes schedules

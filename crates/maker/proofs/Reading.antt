@@ -7,7 +7,6 @@ use mathlib.Core.Path.{◌≡◌, refl, sym, ◌∙◌}
 use native.Mathlib.Omega.{arith}
 use lib.Dec.{eqb, ltb}
 use lib.ListN.{length, take, length-map}
-use Rattle.std.specs.Prelude.{Result, Ok, Err}
 use Rattle.hash.proofs.Indicators.{true_or_false}
 use Rattle.prelude.specs.Answers.{Answer, given, refused, some, first_of}
 use Rattle.prelude.specs.Numbers.{value_of}
@@ -16,7 +15,7 @@ use Rattle.prelude.proofs.First.{first_is}
 use Rattle.prelude.proofs.Refusals.{Refusal, GivenOrRefused, refusals_given_or_refused}
 use Rattle.suppliers.specs.Text.{lines_of, starting_with, pairs_of_text}
 use Rattle.suppliers.specs.Lists.{faulty_line, read_list_of, ListRead}
-use Rattle.suppliers.specs.Answered.{text_read_of}
+use Rattle.suppliers.specs.Answered.{text_error_of}
 use Rattle.suppliers.specs.declared.read.TextError.{TextError}
 use Rattle.suppliers.specs.declared.read.TextError.TheVariants.{FaultyLine, TooManyLines}
 use Rattle.suppliers.proofs.ReadLaws.{read_room, read_count, codes_read_lem, schedules_read_lem}
@@ -60,10 +59,9 @@ module _ (text : List ℕ) (codes schedules : ℕ) where
       ]
 
 -- an error is a refusal
-pub read_refuses : (read : Result ℕ TextError) → ((n : ℕ) → read ≡ Ok n → ⊥) → (number : ℕ) × (value : ℕ) × (text_read_of read ≡ refused number value)
-read_refuses (Ok n) k = absurd (k n refl)
-read_refuses (Err (FaultyLine line)) k = (71, line, refl)
-read_refuses (Err (TooManyLines lines)) k = (72, lines, refl)
+pub read_refuses : (e : TextError) → (number : ℕ) × (value : ℕ) × (text_error_of e ≡ refused number value)
+read_refuses (FaultyLine line) = (71, line, refl)
+read_refuses (TooManyLines lines) = (72, lines, refl)
 
 -- ---- what it leaves
 
