@@ -98,9 +98,6 @@ module _ (p limit : ℕ) (words codes : List ℕ) where
       pub nothing_yet : i ≡ 0 → d.hold ≡ 0
       pub decider : 0 < i → (x : ℕ) × Decides holds i schedule x × (answer x ≡ given (d.found.schedule ∷ d.found.cell ∷ [])) × (d.hold ≡ hold_of holds d.found.schedule)
 
-    pub walk_starts : Kept 0 (record { hold = 0; found = record { schedule = 0; cell = 0 } })
-    walk_starts = record { none_ends = below_none _; nothing_yet = λ _. refl; decider = λ l. absurd (omega arith) }
-
     module _ (i : ℕ) (d next : Decided) (k : Kept i d) (found : answer i ≡ given (next.found.schedule ∷ next.found.cell ∷ []))
         (its_hold : next.hold ≡ hold_of holds next.found.schedule) (in_use : next.hold ≡ 0 → ⊥) where
       none_ends : NoneEnds (i + 1)
