@@ -31,20 +31,20 @@ use Rattle.panel.proofs.Deciding.{Decides, deciding_is, decides_only, and_true}
 -- ---- what takes the place of what
 
 replaces_tells :
-    (d next : Decided) → replaces d next ≡ true → (d.hold < next.hold) ⊎ ((d.hold ≡ next.hold) × (next.found.schedule < d.found.schedule))
+    (d next : Decided) → replaces d next ≡ true → (d.hold < next.hold) ⊎ ((d.hold ≡ next.hold) × (next.schedule < d.schedule))
 replaces_tells d next e =
     elim (dec_lt d.hold next.hold) [
       | yes l ↦ inl l
       | no ge ↦
-          let (same, less) = and_true (eqb d.hold next.hold) (ltb next.found.schedule d.found.schedule) (rw (le-ltb d.hold next.hold (omega arith)) at e) in
-          inr (eqb-true d.hold next.hold same, ltb-true next.found.schedule d.found.schedule less)
+          let (same, less) = and_true (eqb d.hold next.hold) (ltb next.schedule d.schedule) (rw (le-ltb d.hold next.hold (omega arith)) at e) in
+          inr (eqb-true d.hold next.hold same, ltb-true next.schedule d.schedule less)
     ]
 
 keeps_tells :
-    (d next : Decided) → replaces d next ≡ false → (next.hold ≤ d.hold) × (d.hold ≡ next.hold → d.found.schedule ≤ next.found.schedule)
+    (d next : Decided) → replaces d next ≡ false → (next.hold ≤ d.hold) × (d.hold ≡ next.hold → d.schedule ≤ next.schedule)
 keeps_tells d next e =
-    let (no_longer, no_less) = or_false (ltb d.hold next.hold) (eqb d.hold next.hold && ltb next.found.schedule d.found.schedule) e in
-    (ltb-false d.hold next.hold no_longer, λ same. ltb-false next.found.schedule d.found.schedule (rw (eq-eqb d.hold next.hold same) at no_less))
+    let (no_longer, no_less) = or_false (ltb d.hold next.hold) (eqb d.hold next.hold && ltb next.schedule d.schedule) e in
+    (ltb-false d.hold next.hold no_longer, λ same. ltb-false next.schedule d.schedule (rw (eq-eqb d.hold next.hold same) at no_less))
 
 -- ---- one more schedule
 
@@ -96,14 +96,14 @@ module _ (p limit : ℕ) (words codes : List ℕ) where
     pub record Kept (i : ℕ) (d : Decided) : Type 0 where
       pub none_ends : NoneEnds i
       pub nothing_yet : i ≡ 0 → d.hold ≡ 0
-      pub decider : 0 < i → (x : ℕ) × Decides holds i schedule x × (answer x ≡ given (d.found.schedule ∷ d.found.cell ∷ [])) × (d.hold ≡ hold_of holds d.found.schedule)
+      pub decider : 0 < i → (x : ℕ) × Decides holds i schedule x × (answer x ≡ given (d.schedule ∷ d.cell ∷ [])) × (d.hold ≡ hold_of holds d.schedule)
 
-    module _ (i : ℕ) (d next : Decided) (k : Kept i d) (found : answer i ≡ given (next.found.schedule ∷ next.found.cell ∷ []))
-        (its_hold : next.hold ≡ hold_of holds next.found.schedule) (in_use : next.hold ≡ 0 → ⊥) where
+    module _ (i : ℕ) (d next : Decided) (k : Kept i d) (found : answer i ≡ given (next.schedule ∷ next.cell ∷ []))
+        (its_hold : next.hold ≡ hold_of holds next.schedule) (in_use : next.hold ≡ 0 → ⊥) where
       none_ends : NoneEnds (i + 1)
       none_ends = below_next _ i k.none_ends (rw found (ne_eqb _ _ (λ e. in_use (its_hold ∙ e))))
 
-      scheduled : schedule i ≡ next.found.schedule
+      scheduled : schedule i ≡ next.schedule
       scheduled = ap found_value_of found
 
       held : hold_of holds (schedule i) ≡ next.hold
@@ -114,7 +114,7 @@ module _ (p limit : ℕ) (words codes : List ℕ) where
           one_decides holds schedule i
           (λ y l.
           let (x, decides, there, long) = k.decider (omega arith) in
-          let named : schedule x ≡ d.found.schedule = ap found_value_of there in
+          let named : schedule x ≡ d.schedule = ap found_value_of there in
           let held-before : hold_of holds (schedule x) ≡ d.hold = ap (hold_of holds) named ∙ sym long in
           let no_longer = decides.longest_hold y l in
           elim (dec_lt (hold_of holds (schedule y)) (hold_of holds (schedule i))) [
@@ -128,12 +128,12 @@ module _ (p limit : ℕ) (words codes : List ℕ) where
                 (replaces_tells d next e)
           ])
 
-      kept : replaces d next ≡ false → (x : ℕ) × Decides holds (i + 1) schedule x × (answer x ≡ given (d.found.schedule ∷ d.found.cell ∷ [])) × (d.hold ≡ hold_of holds d.found.schedule)
+      kept : replaces d next ≡ false → (x : ℕ) × Decides holds (i + 1) schedule x × (answer x ≡ given (d.schedule ∷ d.cell ∷ [])) × (d.hold ≡ hold_of holds d.schedule)
       kept e =
           let (no_longer, no_less) = keeps_tells d next e in
           let before : 0 < i = elim (dec_lt 0 i) [ yes l ↦ l | no none ↦ absurd (in_use (omega (arith, k.nothing_yet (omega arith)))) ] in
           let (x, decides, there, long) = k.decider before in
-          let named : schedule x ≡ d.found.schedule = ap found_value_of there in
+          let named : schedule x ≡ d.schedule = ap found_value_of there in
           let held-before : hold_of holds (schedule x) ≡ d.hold = ap (hold_of holds) named ∙ sym long in (
             x,
             still_decides holds schedule i x decides (omega (arith, held)) (λ same. omega (arith, scheduled, no_less (omega (arith, held)))),
@@ -192,7 +192,7 @@ module _ (p limit : ℕ) (words codes : List ℕ) where
         ∙ ap answer (decides_only holds (length codes) schedule (deciding_is holds (length codes) schedule (omega (arith, decides.in_panel)) (to_999 none)) decides)
 
     -- after the last code
-    pub walk_over : (i : ℕ) (d : Decided) → 0 < length codes → i ≡ length codes → Kept i d → walk_of p limit words holds codes ≡ given (d.found.schedule ∷ d.found.cell ∷ [])
+    pub walk_over : (i : ℕ) (d : Decided) → 0 < length codes → i ≡ length codes → Kept i d → walk_of p limit words holds codes ≡ given (d.schedule ∷ d.cell ∷ [])
     walk_over i d some all k =
         let k' = subst (λ (n : ℕ). Kept n d) all k in
         let (x, decides, there, long) = k'.decider some in

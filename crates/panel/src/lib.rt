@@ -70,18 +70,19 @@ fn lookup_in(h: Hasher, limit: u32, words: &[u32], code: u32) -> Result<Option<F
     in_block(h.prime, words, code, j)
 }
 
-// A schedule that is found, with its hold and the cell of its code.
+// A schedule that is found, with its hold and the cell of its code: three numbers, since a `Found` in it was packed and unpacked for each code.
 #[derive(Clone, Copy)]
 struct Decided {
     hold: u32,
-    found: Found,
+    schedule: u32,
+    cell: u32,
 }
 
 // One more schedule takes the place of the one that decides so far: its hold is longer, or as long and its number smaller.
 fn replaces(d: Decided, next: Decided) -> bool
     ensures { result ≡ replaces d next }
 {
-    (d.hold < next.hold) | ((d.hold == next.hold) & (next.found.schedule < d.found.schedule))
+    (d.hold < next.hold) | ((d.hold == next.hold) & (next.schedule < d.schedule))
 }
 
 // What decides a panel, with one more schedule: the earlier where both have one number.
@@ -110,10 +111,8 @@ fn walk(
     // a hold of 0 is shorter than any in use: the first schedule takes its place
     let mut decided = Decided {
         hold: 0,
-        found: Found {
-            schedule: 0,
-            cell: 0,
-        },
+        schedule: 0,
+        cell: 0,
     };
     for (i, &code) in codes.iter().enumerate() {
         let found = found_at(lookup_in(h, limit, words, code), i as u32)?;
@@ -121,9 +120,19 @@ fn walk(
         if hold == 0 {
             return Err(PanelError::NotInUse(i as u32));
         }
-        decided = decide(decided, Decided { hold, found });
+        decided = decide(
+            decided,
+            Decided {
+                hold,
+                schedule: found.schedule,
+                cell: found.cell,
+            },
+        );
     }
-    Ok(decided.found)
+    Ok(Found {
+        schedule: decided.schedule,
+        cell: decided.cell,
+    })
 }
 
 // The answer for any words of a format, and any holds and codes.

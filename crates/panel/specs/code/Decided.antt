@@ -13,4 +13,4 @@ answer_at (refused number value) i = ended_of (refused number value) i
 
 -- one more schedule takes the place of the one before it: its hold is longer, or as long and its number smaller
 abbrev pub replaces : Decided → Decided → Bool
-replaces d next = ltb d.hold next.hold || (eqb d.hold next.hold && ltb next.found.schedule d.found.schedule)
+replaces d next = ltb d.hold next.hold || (eqb d.hold next.hold && ltb next.schedule d.schedule)
