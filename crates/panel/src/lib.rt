@@ -115,7 +115,11 @@ fn walk(
         cell: 0,
     };
     for (i, &code) in codes.iter().enumerate() {
-        let found = found_at(lookup_in(h, limit, words, code), i as u32)?;
+        let answer = found_at(lookup_in(h, limit, words, code), i as u32);
+        // document 01 asks for this form here, and not for `?`
+        let Ok(found) = answer else {
+            return answer;
+        };
         let hold = holds[wide(found.schedule) - 1];
         if hold == 0 {
             return Err(PanelError::NotInUse(i as u32));
