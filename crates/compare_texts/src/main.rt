@@ -168,6 +168,7 @@ fn main() {
         return;
     }
     let mut rest = &input[..n];
+    // how long a case is stands in its head
     while let Some(next) = first_case(rest) {
         rest = next;
     }

@@ -19,6 +19,7 @@ pub extern "C" fn glass_build_for(
     ensures { BuildForShown prime most_pairs codes.now schedules.now words.old result words.new }
 {
     if !is_table_prime(prime) {
+        // 76 is refused here alone, and goes to C as it is
         return Numbered {
             number: 76,
             value: 0,

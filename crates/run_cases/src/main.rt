@@ -21,6 +21,7 @@ fn print_line(name: &[u8], n: u32, a: Numbered) {
     io::write_all(1, b"\n");
 }
 
+// The same of a lookup and a panel, which C sees as a struct of its own.
 fn print_found(name: &[u8], n: u32, a: NumberedFound) {
     print_case(name, n);
     print_field(a.number);
