@@ -2,7 +2,7 @@
 // where they are short. tools/second_program.py makes the input and the lines that are expected, and says what is in them.
 #![tactic(auto)]
 
-ghost use Rattle.std.specs.Prelude.{◌+◌, ◌<◌, ◌≤◌, length, IfSome};
+ghost use Rattle.std.specs.Prelude.{◌+◌, ◌<◌, length, IfSome};
 
 use comparing::print_field;
 use digests::digest;
