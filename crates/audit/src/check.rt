@@ -1,5 +1,5 @@
 // The check of a table from anywhere (document 01, "Check"): each test over the whole table before the next. Nothing here writes.
-ghost use Rattle.std.specs.Prelude.{◌<◌, ◌≡◌};
+ghost use Rattle.std.specs.Prelude.{◌<◌, ◌≤◌, ◌≡◌};
 ghost use Rattle.prelude.specs.Limits.{most_pairs};
 ghost use Rattle.table.specs.code.Sized.{Sized};
 ghost use Rattle.audit.specs.Check.{check_of};
@@ -128,6 +128,7 @@ fn check_blocks(format: Format, words: &[u32]) -> Result<Accepted, CheckError>
 
 // The check of a table of a format.
 pub fn check_for(format: Format, words: &[u32]) -> Result<Accepted, CheckError>
+    requires { format.limit ≤ 65536 }
     ensures { checked_of result ≡ check_of format.prime format.limit words.now }
 {
     if words.len() < 3 {

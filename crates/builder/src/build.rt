@@ -1,6 +1,7 @@
 // Building a table from a list (document 01, "Build"). A refusal changes no word.
-ghost use Rattle.std.specs.Prelude.{◌≡◌};
-ghost use Rattle.prelude.specs.Limits.{most_pairs};
+ghost use Rattle.std.specs.Prelude.{◌≡◌, ◌≤◌};
+ghost use Rattle.hash.specs.Theorems.{Prime};
+ghost use Rattle.prelude.specs.Limits.{room, most_pairs};
 ghost use Rattle.builder.specs.Build.{Built};
 ghost use Rattle.builder.specs.Built.{built_of, build_error_of};
 ghost use Rattle.builder.specs.declared.build.BuildError.TheVariants.{Refused};
@@ -49,6 +50,8 @@ pub fn build_for(
     schedules: &[u32],
     words: &mut [u32],
 ) -> Result<u32, BuildError>
+    requires prime { Prime format.prime }
+    requires limit_le_room { format.limit ≤ room }
     ensures { Built format.prime format.limit codes.now schedules.now words.old (built_of result) words.new }
 {
     validate(format, codes, schedules)?;

@@ -1,7 +1,8 @@
 // Putting one code in and taking one out, into a second buffer (document 01, "Put in, take out"). The old table is read only.
-ghost use Rattle.std.specs.Prelude.{◌≡◌};
+ghost use Rattle.std.specs.Prelude.{◌≤◌, ◌≡◌};
+ghost use Rattle.hash.specs.Theorems.{Prime};
 ghost use Rattle.prelude.specs.Answers.{into_room};
-ghost use Rattle.prelude.specs.Limits.{most_pairs};
+ghost use Rattle.prelude.specs.Limits.{room, most_pairs};
 ghost use Rattle.audit.specs.WellFormed.{WellFormed};
 ghost use Rattle.editor.specs.Edit.{Inserted, Removed};
 ghost use Rattle.editor.specs.Edited.{edit_error_of, edited_of};
@@ -73,6 +74,8 @@ fn put_in(
     schedule: u32,
     second: &mut [u32],
 ) -> Result<u32, EditError>
+    requires prime { Prime format.prime }
+    requires limit_le_room { format.limit ≤ room }
     requires well_formed { WellFormed format.prime format.limit words.now }
     requires in_range { InRange format.prime code schedule }
     ensures { PutIn format.prime format.limit words.now code schedule second.old (edited_of result) second.new }
@@ -93,7 +96,9 @@ fn put_in(
 
 // From 55 on: a table whose codes are all others does not have the code.
 fn take_out(format: Format, words: &[u32], code: u32, second: &mut [u32]) -> Result<u32, EditError>
-    requires { WellFormed format.prime format.limit words.now }
+    requires prime { Prime format.prime }
+    requires limit_le_room { format.limit ≤ room }
+    requires well_formed { WellFormed format.prime format.limit words.now }
     ensures { TakenOut format.prime words.now code second.old (edited_of result) second.new }
 {
     let others = count_others(words, code);
@@ -118,6 +123,8 @@ fn insert_for(
     schedule: u32,
     second: &mut [u32],
 ) -> Result<u32, EditError>
+    requires prime { Prime format.prime }
+    requires limit_le_room { format.limit ≤ room }
     ensures { Inserted format.prime format.limit words.now code schedule second.old (edited_of result) second.new }
 {
     if outside(1, format.prime - 1, code) {
@@ -137,6 +144,8 @@ fn remove_for(
     code: u32,
     second: &mut [u32],
 ) -> Result<u32, EditError>
+    requires prime { Prime format.prime }
+    requires limit_le_room { format.limit ≤ room }
     ensures { Removed format.prime format.limit words.now code second.old (edited_of result) second.new }
 {
     if outside(1, format.prime - 1, code) {

@@ -158,7 +158,7 @@ fn reciprocal(p: u32, w: u32) -> Option<u64>
     Some(4294967295 / u64::from(w) + 1)
 }
 
-// The place of code a among w places: ((k × a) mod p) mod w.
+// The place of code a among w places: ((k × a) mod p) mod w. For one code a division is cheaper than a reciprocal.
 #[tactic(auto, unfolding(crate::specs::Hash::hash_of))]
 pub fn hash(p: u32, k: u32, w: u32, a: u32) -> u32
     requires k_lt_p { k < p }

@@ -80,6 +80,7 @@ fn put_table(text: &mut [u8; 65536], words: &[u32], codes: &[u32], schedules: &[
 // Writes the lines of the table in these words; an error keeps the text. A table has at most as many codes as there are places, so reading back refuses only
 // what the check does.
 fn list_words(format: Format, words: &[u32], text: &mut [u8; 65536]) -> Result<usize, ReadError>
+    requires { format.limit ≤ room }
     ensures { TextOr read_error_of (text_of (check_of format.prime format.limit words.now) words.now) text.old result text.new }
 {
     let mut codes = [0u32; ROOM];
@@ -91,6 +92,7 @@ fn list_words(format: Format, words: &[u32], text: &mut [u8; 65536]) -> Result<u
 
 // Writes the lines of the table in the bytes of a file; an error keeps the text.
 fn list_table(format: Format, bytes: &[u8], text: &mut [u8; 65536]) -> Result<usize, FileError>
+    requires { format.limit ≤ room }
     ensures { TextOr file_error_of (listing_of format.prime format.limit bytes.now) text.old result text.new }
 {
     if 65536 < bytes.len() {
@@ -107,6 +109,7 @@ fn list_table(format: Format, bytes: &[u8], text: &mut [u8; 65536]) -> Result<us
 
 // The text for the bytes of a file.
 pub(crate) fn list_file(format: Format, bytes: &[u8], text: &mut [u8; 65536]) -> usize
+    requires { format.limit ≤ room }
     ensures { FileListed format.prime format.limit bytes.now text.old result text.new }
 {
     match list_table(format, bytes, text) {

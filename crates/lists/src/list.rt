@@ -1,5 +1,6 @@
 // The refusals of a list of pairs, in their order (document 01, "Build", 1 to 5).
-ghost use Rattle.std.specs.Prelude.{[], ◌≡◌};
+ghost use Rattle.std.specs.Prelude.{◌≤◌, [], ◌≡◌};
+ghost use Rattle.prelude.specs.Limits.{room};
 ghost use Rattle.prelude.specs.Answers.{given};
 ghost use Rattle.lists.specs.List.{list_or, listed_of, list_error_of};
 
@@ -55,6 +56,7 @@ impl Refusal for ListError {
 
 // Whether a list is valid for a format; otherwise the first of 1 to 5 that holds. Each test is over all pairs before the next.
 pub fn validate(format: Format, codes: &[u32], schedules: &[u32]) -> Result<(), ListError>
+    requires { format.limit ≤ room }
     ensures { listed_of result ≡ list_or format.prime format.limit codes.now schedules.now (given []) }
 {
     let n = codes.len();

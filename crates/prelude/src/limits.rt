@@ -1,7 +1,6 @@
 // The limit on pairs, and the room of local arrays: each is said here alone (specs/Limits.antt).
 ghost use Rattle.std.specs.Prelude.{◌≤◌, ◌≡◌};
-ghost use Rattle.hash.specs.Theorems.{Prime};
-ghost use Rattle.prelude.specs.Limits.{most_pairs, room};
+ghost use Rattle.prelude.specs.Limits.{most_pairs};
 
 // The most pairs of a list, and codes of a table.
 pub const MOST_PAIRS: u32 = 2048;
@@ -13,13 +12,12 @@ pub const ROOM: usize = 2048;
 // to 0 whole, which would take longer than the rest of a short list.
 pub const FEW: usize = 128;
 
-// What a table is built with: its prime, and the most codes that it may have, for which local arrays have room.
+// What a table is built with: its prime, and the most codes that it may have. A code is below the prime, and none is 0.
 #[derive(Clone, Copy)]
 pub struct Format {
     pub prime: u32,
     pub limit: u32,
-    ghost is_prime: { Prime prime },
-    ghost fits: { limit ≤ room },
+    ghost has_least: { 1 ≤ prime },
 }
 
 impl Format {

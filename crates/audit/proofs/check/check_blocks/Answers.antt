@@ -40,8 +40,8 @@ check_places-requires c =
       sized = c.requires;
       starts = starts_pass c.args.words.now c.requires.no_cells (where_passed _ _ (sym c.first_bad_start.ensures ∙ c.in_default.is));
       multipliers = λ j l.
-          ((multiplier_passes c.args.format.prime c.args.words.now j (omega (arith, c.args.format.is_prime.two_le))).0 (where_passed _ _ (sym c.first_bad_multiplier.ensures ∙ c.in_default-first_bad_multiplier.is) j l)).1;
-      codes = λ i l. ((cell_passes c.args.format.prime c.args.words.now i (omega (arith, c.args.format.is_prime.two_le))).0 (where_passed _ _ (sym c.first_bad_cell.ensures ∙ c.in_default-first_bad_cell.is) i l)).0;
+          ((multiplier_passes c.args.format.prime c.args.words.now j c.args.format.has_least).0 (where_passed _ _ (sym c.first_bad_multiplier.ensures ∙ c.in_default-first_bad_multiplier.is) j l)).1;
+      codes = λ i l. ((cell_passes c.args.format.prime c.args.words.now i c.args.format.has_least).0 (where_passed _ _ (sym c.first_bad_cell.ensures ∙ c.in_default-first_bad_cell.is) i l)).0;
     }
 
 pub returns : goal.returns

@@ -22,7 +22,7 @@ pub write_valid-total-requires : goal.write_valid-total-requires
 write_valid-total-requires c =
     let valid : Valid c.args.format.prime c.args.format.limit c.args.codes.now c.args.schedules.now = passes_valid _ _ _ _ (sym c.in_ok-validate.ensures) in
     record {
-      searchable = record { prime = c.args.format.is_prime; valid = valid.codes_valid; few = omega (arith, valid.few, c.args.format.fits) };
+      searchable = record { prime = c.requires.prime; valid = valid.codes_valid; few = omega (arith, valid.few, c.requires.limit_le_room) };
       schedules_len = valid.parallel;
     }
 

@@ -39,7 +39,7 @@ put_in-requires c =
     let accepted = sym c.in_ok-check_for.ensures in
     let range : InRange c.args.format.prime c.args.code c.args.schedule
     = record { code_from_one = code.0; code_below = omega arith; schedule_from_one = schedule.0; schedule_to_999 = schedule.1 } in
-    record { well_formed = well_formed _ _ _ _ accepted; in_range = range }
+    record { prime = c.requires.prime; limit_le_room = c.requires.limit_le_room; well_formed = well_formed _ _ _ _ accepted; in_range = range }
 
 pub returns : goal.returns
 returns c =

@@ -16,7 +16,7 @@ pub write_changed-total-requires : goal.write_changed-total-requires
 unfolding changed with_pair
 write_changed-total-requires c =
     let has_room : length (without c.args.code (pairs_in c.args.words.now)) ≡ c.args.format.limit → ⊥ = λ e. c.if-others-wide.false (c.count_others-others.ensures ∙ e ∙ sym c.wide.ensures.value) in
-    record { searchable = with_searchable c.requires.well_formed _ c.args.format.is_prime c.args.format.fits has_room _ c.requires.in_range; changing = record { whole = c.requires.well_formed.whole; others_are = c.count_others-others.ensures } }
+    record { searchable = with_searchable c.requires.well_formed _ c.requires.prime c.requires.limit_le_room has_room _ c.requires.in_range; changing = record { whole = c.requires.well_formed.whole; others_are = c.count_others-others.ensures } }
 
 pub returns : goal.returns
 unfolding changed with_pair

@@ -22,7 +22,7 @@ returns-in_err-check_for c =
     rw is (remove_refused _ _ _ _ _ in_range (check_error_of e) c.in_err-check_for.ensures (refuses e))
 
 pub take_out-requires : goal.take_out-requires
-take_out-requires c = well_formed _ _ _ _ (sym c.in_ok-check_for.ensures)
+take_out-requires c = record { prime = c.requires.prime; limit_le_room = c.requires.limit_le_room; well_formed = well_formed _ _ _ _ (sym c.in_ok-check_for.ensures) }
 
 pub returns : goal.returns
 returns c =
