@@ -23,7 +23,7 @@ pub(crate) enum FileError {
     TooLong,
     // 62
     NotWords,
-    // 11 to 21
+    // 11 to 21; 41 is none of a file's, since no table has more codes than there are places
     Refused(ReadError),
 }
 

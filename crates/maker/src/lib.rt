@@ -46,7 +46,7 @@ impl From<BuildError> for MakeError {
     }
 }
 
-// The number of an error and what comes with it: of a text, a size that is a word.
+// The number of an error and what comes with it: of a text, a size that is a word. That is asked here, as a `Refusal` could not.
 fn refusal(e: MakeError) -> Numbered
     requires { SmallSize e }
     ensures { Shown (make_error_of e) result }
