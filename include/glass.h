@@ -10,7 +10,7 @@
  * non-null and aligned (any non-null pointer of its type will do): nothing is read or written through it. Arrays that are written may overlap no other
  * array of the same call. A refusal changes nothing that was lent.
  *
- * Stack. glass_insert and glass_remove use up to 24 KiB, glass_pairs up to 18 KiB, glass_build up to 12 KiB, the others less than 1 KiB.
+ * Stack. glass_insert and glass_remove use up to 25 KiB, glass_pairs up to 18 KiB, glass_build up to 12 KiB, the others less than 1 KiB.
  *
  * Answers. Every function answers a number and a value: GLASS_OK with the result, GLASS_ABSENT (lookup, panel), or a refusal with what comes with it.
  * Both are 32 bits in a glass_answer; in a glass_size, which reading and writing a text answer, the value is a size_t; in a glass_found, which a lookup and
