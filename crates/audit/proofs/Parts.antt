@@ -85,7 +85,7 @@ module _ (words : List ℕ) (s : Starts words) (whole : total words ≤ length w
         (block_of h.prime words (cell_code words (block_start words j + t)))
         (block_lt h.prime words (cell_code words (block_start words j + t)) (omega arith))))
 
-    part_first : first_of (length (block_codes words j)) (misplaced_in h b (block_codes words j)) ≡ first_of (cells_of words j) (λ t. misplaced h.prime words (block_start words j + t))
+    pub part_first : first_of (length (block_codes words j)) (misplaced_in h b (block_codes words j)) ≡ first_of (cells_of words j) (λ t. misplaced h.prime words (block_start words j + t))
     part_first =
         ap (λ (w : ℕ). first_of w (misplaced_in h b (block_codes words j))) part_length
         ∙ first_ext (cells_of words j) _ _ part_misplaced

@@ -34,7 +34,7 @@ fn read_by(bytes: &mut [u8], list: &mut [u32]) -> usize
 
 // Fills the first places with the next words of the input and answers how many: as many as are lent, fewer where the input ends first, none for more places
 // than a list has pairs. Which words they are is left open, as in `io::read_full`.
-fn read_words(list: &mut [u32]) -> usize
+pub fn read_words(list: &mut [u32]) -> usize
     ensures { result ≤ length list.new }
 {
     if MOST < list.len() {
@@ -59,7 +59,7 @@ pub fn read_list(list: &mut [u32]) -> Result<(), ReadError>
 }
 
 // Fills the codes and the schedules from the input, and the second two with the same from the last to the first. Which pairs they are is left open.
-fn read_both_orders(
+pub fn read_both_orders(
     codes: &mut [u32],
     schedules: &mut [u32],
     codes2: &mut [u32],

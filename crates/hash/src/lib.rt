@@ -11,7 +11,7 @@ pub struct Hasher {
     pub prime: u32,
     pub multiplier: u32,
     pub places: u32,
-    reciprocal: Option<u64>,
+    pub reciprocal: Option<u64>,
     pub ghost below: { multiplier < prime },
     pub ghost ready: { Ready prime places reciprocal },
 }
@@ -145,7 +145,7 @@ pub fn residue(p: u32, k: u32, a: u32) -> u32
 
 // The precomputed reciprocal of w, for many remainders of numbers below p: 2^32 / w rounded up, where w and p are small enough for that.
 #[tactic(auto, unfolding(crate::specs::code::Contract::reciprocal_of))]
-fn reciprocal(p: u32, w: u32) -> Option<u64>
+pub fn reciprocal(p: u32, w: u32) -> Option<u64>
     requires { 0 < w }
     ensures { result ≡ reciprocal_of p w }
 {

@@ -19,7 +19,7 @@ value_of absent = 0
 value_of (unknown i) = i
 value_of (refused number value) = value
 
--- r is the number and the value of an answer: the promise of every `numbered` function and of every C export
+-- r is the number and the value of an answer: the promise of `refusal` (prelude/src/answers.rt), of each function that shows an answer in numbers, and of every C export
 pub record Shown (answer : Answer) (r : Numbered) : Type 0 where
   pub number_shown : r.number ≡ number_of answer
   pub value_shown : r.value ≡ value_of answer
