@@ -84,11 +84,11 @@ fn generate_and_print(asked: Asked, codes: &mut [u32], schedules: &mut [u32]) {
 
 // One load, where there is room for its places.
 fn one_load(asked: Asked) {
-    let mut codes = [0u32; 4096];
-    let mut schedules = [0u32; 4096];
-    if codes.len() < asked.codes || schedules.len() < asked.schedules {
+    if 4096 < asked.codes || 4096 < asked.schedules {
         return;
     }
+    let mut codes = [0u32; 4096];
+    let mut schedules = [0u32; 4096];
     generate_and_print(
         asked,
         &mut codes[..asked.codes],

@@ -112,11 +112,11 @@ impl From<[u32; 4]> for Head {
 fn read_case(head: Head, text: &[u8]) {
     let c = wide(head.codes);
     let s = wide(head.schedules);
-    let mut codes = [0u32; 4096];
-    let mut schedules = [0u32; 4096];
-    if codes.len() < c || schedules.len() < s {
+    if 4096 < c || 4096 < s {
         return;
     }
+    let mut codes = [0u32; 4096];
+    let mut schedules = [0u32; 4096];
     read_and_print(text, &mut codes[..c], &mut schedules[..s]);
 }
 
@@ -125,11 +125,11 @@ fn write_case(head: Head, list: &[u8]) {
     let c = wide(head.codes);
     let s = wide(head.schedules);
     let n = wide(head.bytes);
-    let mut words = [0u32; 8192];
-    let mut text = [0u8; 65536];
-    if 4096 < c || 4096 < s || text.len() < n {
+    if 4096 < c || 4096 < s || 65536 < n {
         return;
     }
+    let mut words = [0u32; 8192];
+    let mut text = [0u8; 65536];
     // the codes come first, then the schedules
     files::words_of(list, &mut words);
     let all: &[u32] = &words;
@@ -137,7 +137,9 @@ fn write_case(head: Head, list: &[u8]) {
 }
 
 // How many bytes follow the head: those of the text, or of the codes and the schedules.
-fn bytes_after(head: Head) -> usize {
+fn bytes_after(head: Head) -> usize
+    ensures { result < 68719476736 }
+{
     match head.kind {
         Kind::Read => wide(head.bytes),
         Kind::Write => 4 * (wide(head.codes) + wide(head.schedules)),
