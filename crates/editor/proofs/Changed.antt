@@ -164,3 +164,18 @@ alone_built words x (a ∷ y ∷ codes) schedules s l one b = absurd (omega arit
 alone_built words x (a ∷ []) [] s l one b = absurd (omega (arith, listed_same words x _ _ s l))
 alone_built words x (a ∷ []) (v ∷ w ∷ schedules) s l one b = absurd (omega (arith, listed_same words x _ _ s l))
 alone_built words x (a ∷ []) (v ∷ []) s l one b = listed_built words x _ _ s l (one_valid (listed_searchable words x _ _ s l) b)
+
+no_pairs : (pairs : List Pair) → length pairs ≡ 0 → pairs ≡ []
+no_pairs [] e = refl
+no_pairs (y ∷ pairs) e = absurd (omega arith)
+
+-- the new pair alone
+pub new_alone_built :
+    {p : ℕ} (words : List ℕ) (x : Change) {v : ℕ} → Searchable p (codes_of (changed x (pairs_in words))) → Changing words x → x.schedule ≡ Some v
+    → length (new_pairs x) + x.others ≡ 1 → {second second' : List ℕ} {total : ℕ} → OneBuilt x.code v second total second'
+    → ChangedBuilt p words x second total second'
+unfolding changed
+new_alone_built words x {v} s h e one b =
+    let one = rw e at one in
+    let none : without x.code (pairs_in words) ≡ [] = no_pairs _ (sym h.others_are ∙ omega (arith, one)) in
+    rw (e, none) (one_valid (rw (e, none) at s) b)

@@ -85,7 +85,9 @@ fn list_changed<'a>(
     (&codes[..to], &schedules[..to])
 }
 
-// Writes the table of the changed list, of at most N pairs, and gives the total. No word is written where fewer are lent.
+// Writes the table of the changed list, of at most N pairs, and gives the total. No word is written where fewer are lent. Not inlined: an edit of few pairs
+// would set up the stack of the largest one.
+#[inline(never)]
 fn write_in<const N: usize>(p: u32, words: &[u32], change: Change, second: &mut [u32]) -> u32
     requires searchable { Searchable p (codes_of (changed change (pairs_in words.now))) }
     requires changing { Changing words.now change }
@@ -98,20 +100,25 @@ fn write_in<const N: usize>(p: u32, words: &[u32], change: Change, second: &mut 
     write_valid(p, codes, schedules, second)
 }
 
-// The same of a list of one pair.
+// The same of a list of one pair: the new one, which is not gathered, or the one that is left.
 fn write_alone(p: u32, words: &[u32], change: Change, second: &mut [u32]) -> u32
     requires searchable { Searchable p (codes_of (changed change (pairs_in words.now))) }
     requires changing { Changing words.now change }
     requires alone { length (new_pairs change) + change.others ≡ 1 }
     ensures { ChangedBuilt p words.now change second.old result second.new }
 {
+    if let Some(schedule) = change.schedule {
+        return write_one(change.code, schedule, second);
+    }
     let mut codes = [0u32; 1];
     let mut schedules = [0u32; 1];
     let (codes, schedules) = list_changed(words, change, &mut codes, &mut schedules);
     write_one(codes[0], schedules[0], second)
 }
 
-// The same of any changed list. No pair and one pair need no room, and none is cleared.
+// The same of any changed list. No pair and one pair need no room, and none is cleared. Inlined, so that each of its two callers keeps only its own case of
+// one pair.
+#[inline(always)]
 pub(crate) fn write_changed(p: u32, words: &[u32], change: Change, second: &mut [u32]) -> u32
     requires searchable { Searchable p (codes_of (changed change (pairs_in words.now))) }
     requires changing { Changing words.now change }
